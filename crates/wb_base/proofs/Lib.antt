@@ -1,0 +1,5 @@
+pub mod StreamLemmas
+pub mod MemoryLemmas
+pub mod NumberLemmas
+pub mod LineLemmas
+pub mod WriterLemmas

@@ -1,0 +1,178 @@
+-- Laws of bytes that are told.
+use Rattle.std.proofs.Common.{◌≡◌, ℕ, ◌+◌, ◌-◌, ◌<◌, ◌≤◌, List, [], ◌∷◌, ◌++◌, length, get_or, take, drop, Option, Some, None, Result, refl, ap, sym, ◌∙◌, append_assoc, arith}
+use Rattle.std.proofs.lemmas.List.{append-nil, drop_more, take_more, length-append, length-take, length-drop, take-append-drop, take_rest}
+use Rattle.std.proofs.lemmas.Grind.{flat_map-append}
+use Rattle.std.proofs.Math.Seq.{take-add}
+use Rattle.std.proofs.lemmas.Option.{slice_get_within, get_or_from_slice_get}
+use Rattle.std.specs.List.{flat_map, slice_get}
+use Rattle.std.proofs.lemmas.Result.{MatchResult-from_err, MatchResult-weaker}
+use Rattle.std.specs.Result.{IsErr}
+use Rattle.std.specs.Io.KnownBytes.{append_known, prepend_known}
+use Rattle.wb_base.specs.Streams.{Puts, PutsFront, Skips}
+
+-- nothing appended changes nothing
+pub append_known-nil : (known : Option (List ℕ)) → append_known known [] ≡ known
+append_known-nil None = refl
+append_known-nil (Some xs) = ap Some (append-nil xs)
+
+-- two texts appended one after the other
+pub append_known-append
+    : (known : Option (List ℕ)) (a b : List ℕ)
+    → append_known (append_known known a) b ≡ append_known known (a ++ b)
+append_known-append None a b = refl
+append_known-append (Some xs) a b = ap Some (append_assoc xs a b)
+
+-- two texts taken one after the other
+pub prepend_known-append
+    : (known : Option (List ℕ)) (a b : List ℕ)
+    → prepend_known a (prepend_known b known) ≡ prepend_known (a ++ b) known
+prepend_known-append None a b = refl
+prepend_known-append (Some xs) a b = ap Some (sym (append_assoc a b xs))
+
+-- n bytes more of a text of which k were given
+pub took_more
+    : (first now next : Option (List ℕ)) (text : List ℕ) (k n : ℕ)
+    → now ≡ append_known first (take k text)
+    → next ≡ append_known now (take n (take (length text - k) (drop k text)))
+    → next ≡ append_known first (take (k + n) text)
+took_more first now next text k n so_far given =
+    rw (given, so_far, take_rest text k, append_known-append first (take k text) (take n (drop k text)), take-add k n text) refl
+
+-- a part of a text that was given is a front of it
+pub PutsFront-take
+    : (old new : Option (List ℕ)) (text : List ℕ) (k : ℕ)
+    → new ≡ append_known old (take k text)
+    → PutsFront old new text
+PutsFront-take old new text k given = (take k text, drop k text, sym (take-append-drop k text), given)
+
+-- a text whose part was given before an error was put as far as that
+pub Puts-take
+    : {T E : Type 0} (old new : Option (List ℕ)) (result : Result T E) (text : List ℕ) (k : ℕ)
+    → IsErr result
+    → new ≡ append_known old (take k text)
+    → Puts old new result text
+Puts-take old new result text k failed given =
+    MatchResult-from_err result _ _ failed (λ _. PutsFront-take old new text k given)
+
+-- a part of the rest ends within the text
+pub within_rest
+    : (text : List ℕ) (k n : ℕ)
+    → k ≤ length text
+    → n ≤ length (take (length text - k) (drop k text))
+    → k + n ≤ length text
+within_rest text k n before part = omega (arith, rw take_rest at part, length-drop k text)
+
+-- bytes taken after others were taken
+pub Skips-more
+    : (old mid new : Option (List ℕ)) (front into : List ℕ) (n most : ℕ)
+    → old ≡ prepend_known front mid
+    → mid ≡ prepend_known (take n into) new
+    → length front + n ≤ most
+    → (k : ℕ) × (k ≤ most) × Skips old new k
+Skips-more old mid new front into n most first then bound = (
+  length (front ++ take n into),
+  omega (arith, length-append front (take n into), length-take n into),
+  (front ++ take n into, refl, first ∙ ap (prepend_known front) then ∙ prepend_known-append new front (take n into)),
+)
+
+-- the text of two calls, of which the first failed
+pub Puts-stopped
+    : {T E : Type 0} (old new : Option (List ℕ)) (result : Result T E) (text a b : List ℕ)
+    → text ≡ a ++ b
+    → IsErr result
+    → PutsFront old new a
+    → Puts old new result text
+Puts-stopped old new result text a b parts failed (front, rest, cut, given) =
+    MatchResult-from_err result _ _ failed (λ _. (front, rest ++ b, parts ∙ rw cut (append_assoc front rest b), given))
+
+-- a front of a text that follows one that was put
+PutsFront-more
+    : (old mid new : Option (List ℕ)) (a b : List ℕ)
+    → mid ≡ append_known old a
+    → PutsFront mid new b
+    → PutsFront old new (a ++ b)
+PutsFront-more old mid new a b put (front, rest, text, given) = (
+  a ++ front,
+  rest,
+  rw text (sym (append_assoc a front rest)),
+  given ∙ ap (λ k. append_known k front) put ∙ append_known-append old a front,
+)
+
+-- the text of two calls, of which the first put its own
+pub Puts-more
+    : {T E : Type 0} (old mid new : Option (List ℕ)) (result : Result T E) (text a b : List ℕ)
+    → text ≡ a ++ b
+    → mid ≡ append_known old a
+    → Puts mid new result b
+    → Puts old new result text
+Puts-more old mid new result text a b parts put rest =
+    rw parts (MatchResult-weaker result rest (λ _ all. all ∙ ap (λ k. append_known k b) put ∙ append_known-append old a b) (λ _ front. PutsFront-more old mid new a b put front))
+
+-- two texts that were put
+pub append_known-two
+    : (old mid new : Option (List ℕ)) (a b : List ℕ)
+    → mid ≡ append_known old a
+    → new ≡ append_known mid b
+    → new ≡ append_known old (a ++ b)
+append_known-two old mid new a b first second =
+    second ∙ ap (λ known. append_known known b) first ∙ append_known-append old a b
+
+-- a text of a list, cut before and behind one element
+flat_map-split
+    : {X : Type 0} (text_of : X → List ℕ) (xs : List X) (i : ℕ) (x : X)
+    → i < length xs
+    → x ≡ get_or xs i x
+    → flat_map text_of xs ≡ (flat_map text_of (take i xs) ++ text_of x) ++ flat_map text_of (drop (i + 1) xs)
+flat_map-split text_of xs i x within is =
+    let cut : take i xs ++ (x ∷ drop (i + 1) xs) ≡ xs = ap (λ rest. take i xs ++ rest) (ap (λ y. y ∷ drop (i + 1) xs) is ∙ sym (drop_more xs i x within)) ∙ take-append-drop i xs in
+    ap (flat_map text_of) (sym cut) ∙ flat_map-append text_of (take i xs) (x ∷ drop (i + 1) xs) ∙ sym (append_assoc (flat_map text_of (take i xs)) (text_of x) _)
+
+-- the text of a loop over a list that stopped at one of its elements
+pub Puts-stopped_at
+    : {X T E : Type 0} (old mid new : Option (List ℕ)) (result : Result T E) (text_of : X → List ℕ) (xs : List X) (i : ℕ) (x : X)
+    → i < length xs
+    → x ≡ get_or xs i x
+    → IsErr result
+    → mid ≡ append_known old (flat_map text_of (take i xs))
+    → PutsFront mid new (text_of x)
+    → Puts old new result (flat_map text_of xs)
+Puts-stopped_at old mid new result text_of xs i x within is failed put front =
+    Puts-stopped old new result _ (flat_map text_of (take i xs) ++ text_of x) (flat_map text_of (drop (i + 1) xs)) (flat_map-split text_of xs i x within is) failed (PutsFront-more old mid new _ _ put front)
+
+-- the same, where the element was looked up
+pub Puts-stopped_get
+    : {X T E : Type 0} (old mid new : Option (List ℕ)) (result : Result T E) (text_of : X → List ℕ) (xs : List X) (i : ℕ) (x : X)
+    → slice_get xs i ≡ Some x
+    → IsErr result
+    → mid ≡ append_known old (flat_map text_of (take i xs))
+    → PutsFront mid new (text_of x)
+    → Puts old new result (flat_map text_of xs)
+Puts-stopped_get old mid new result text_of xs i x found failed put front =
+    Puts-stopped_at old mid new result text_of xs i x (slice_get_within xs i x found) (sym (get_or_from_slice_get xs i x x found)) failed put front
+
+-- the texts of one element more of a list
+pub append_known-get
+    : {X : Type 0} (old mid new : Option (List ℕ)) (text_of : X → List ℕ) (xs : List X) (i : ℕ) (x : X)
+    → slice_get xs i ≡ Some x
+    → mid ≡ append_known old (flat_map text_of (take i xs))
+    → new ≡ append_known mid (text_of x)
+    → new ≡ append_known old (flat_map text_of (take (i + 1) xs))
+append_known-get old mid new text_of xs i x found put more =
+    let front : take (i + 1) xs ≡ take i xs ++ x ∷ []
+    = take_more xs i x (slice_get_within xs i x found) ∙ ap (λ y. take i xs ++ y ∷ []) (get_or_from_slice_get xs i x x found) in
+    let text : flat_map text_of (take (i + 1) xs) ≡ flat_map text_of (take i xs) ++ text_of x
+    = ap (flat_map text_of) front ∙ flat_map-append text_of (take i xs) (x ∷ []) ∙ ap (λ rest. flat_map text_of (take i xs) ++ rest) (append-nil (text_of x)) in
+    append_known-two old mid new _ _ put more ∙ ap (append_known old) (sym text)
+
+-- ---- Several calls, one after the other ----
+
+-- the text of several calls, of which one failed that isn't the first
+pub Puts-stopped_after
+    : {T E : Type 0} (old mid new : Option (List ℕ)) (result : Result T E) (text a b rest : List ℕ)
+    → text ≡ (a ++ b) ++ rest
+    → IsErr result
+    → mid ≡ append_known old a
+    → PutsFront mid new b
+    → Puts old new result text
+Puts-stopped_after old mid new result text a b rest parts failed put front =
+    Puts-stopped old new result text (a ++ b) rest parts failed (PutsFront-more old mid new a b put front)

@@ -1,0 +1,15 @@
+-- The bytes before the place that was reached were written.
+use Rattle.std.proofs.Common.{◌-◌, ◌≤◌, take}
+use Rattle.std.specs.Io.KnownBytes.{Appends}
+use Rattle.wb_base.proofs.standard.write_out.Given as goal
+
+abbrev pub invariant-loop-written : goal.invariant-loop-written
+invariant-loop-written g l =
+    let writer = g.W.Write in
+    record {
+      within : l.written ≤ l.len;
+      wrote : Appends (writer.contents l.fn.writer) (writer.contents l.writer) (take l.written l.buffer);
+    }
+
+abbrev pub decreases-loop-written : goal.decreases-loop-written
+decreases-loop-written g l = l.len - l.written

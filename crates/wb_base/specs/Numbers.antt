@@ -1,0 +1,28 @@
+-- Decimal numbers as text.
+--
+-- A number is written in one way: its digits, without a leading zero.
+--
+--   digits_in_front bytes    the longest run of digits that the bytes begin with
+--   is_canonical run         whether a run of digits is the text of a number
+--   number_at bytes          the number that the bytes begin with, and the length of its text
+use Rattle.std.specs.Prelude.{ℕ, ◌^◌, ◌&&◌, ◌==◌, Bool, true, false, not, nat_lt, if◌then◌else◌, List, [], ◌∷◌, length, take_while, Option, Some, None}
+use Rattle.std.specs.Char.{is_ascii_digit}
+use Rattle.std.specs.Str.Parse.{digits_value}
+
+-- The longest run of digits in front: of `102 7` it is `102`.
+abbrev pub digits_in_front : List ℕ → List ℕ
+digits_in_front bytes = take_while is_ascii_digit bytes
+
+-- Some digits, the first of which is 0 only where it is the only one.
+abbrev pub is_canonical : List ℕ → Bool
+is_canonical [] = false
+is_canonical (d ∷ []) = true
+is_canonical (d ∷ (e ∷ ds)) = not (d == 48)
+
+-- The number that a run of digits writes, below 2^64, and the length of the run.
+abbrev pub number_of : List ℕ → Option (ℕ × ℕ)
+number_of run = if is_canonical run && nat_lt (digits_value 10 run) (2 ^ 64) then Some (digits_value 10 run, length run) else None
+
+-- The number in front and how many digits it has: of `102 7` they are 102 and 3, and `01` has none.
+abbrev pub number_at : List ℕ → Option (ℕ × ℕ)
+number_at bytes = number_of (digits_in_front bytes)
