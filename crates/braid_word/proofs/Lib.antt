@@ -1,0 +1,10 @@
+pub mod WordLemmas
+pub mod EquivalenceLemmas
+pub mod CommutingLemmas
+pub mod RewritingLemmas
+pub mod ShiftLemmas
+pub mod SignLemmas
+pub mod NotationLemmas
+pub mod PieceLemmas
+pub mod SpellingLemmas
+pub mod ReadWordLemmas

@@ -1,0 +1,24 @@
+//! Braid words: letters, words, their text, inverses, quotients and signs.
+#![tactic(auto)]
+
+mod account;
+mod letter;
+mod reader;
+mod sign;
+#[cfg(test)]
+mod tests;
+mod word;
+mod writer;
+
+pub use account::Account;
+pub use letter::Letter;
+pub use reader::{WordErr, read_strict_word, read_word};
+pub use sign::{Sign, sign_of};
+pub use word::{Word, inverse, quotient};
+pub use writer::{put_letter, put_word};
+
+/// The greatest index of a letter in a word that is read.
+pub const MAX_INDEX: u16 = 255;
+
+/// The most letters of a word that is read.
+pub const MAX_LETTERS: usize = 100_000;

@@ -1,0 +1,123 @@
+use crate::{
+    Letter, MAX_LETTERS, Sign, Word, WordErr, inverse, put_word, quotient, read_strict_word,
+    read_word, sign_of,
+};
+use std::alloc::Global;
+use std::test::Fail;
+use wb_base::MemSink;
+
+// The strict spelling of a word.
+fn spelled(alloc: Global, letters: &[Letter]) -> Result<Vec<u8>, Fail> {
+    let mut sink = MemSink::new(alloc, 64, 3, &[])?;
+    put_word(&mut sink, letters)?;
+    Ok(sink.bytes().to_vec(alloc)?)
+}
+
+// The strict spelling of a word that was read, or the text of its fault.
+fn answer(alloc: Global, read: Result<Word, WordErr>) -> Result<Vec<u8>, Fail> {
+    match read {
+        Ok(word) => spelled(alloc, word.letters()),
+        Err(error) => Ok(error.to_string(alloc)?.into_bytes()),
+    }
+}
+
+#[test]
+fn reads_words_and_answers_the_first_fault(rt: HostRuntime) -> Result<(), Fail> {
+    for (line, want) in [
+        ("1 -2 3", "1 -2 3"),
+        ("", ""),
+        ("  1  2 ", "1 2"),
+        ("255 -255", "255 -255"),
+        ("02", "no letter at byte 1"),
+        ("1 02", "no letter at byte 3"),
+        ("-", "no letter at byte 1"),
+        ("0", "an index out of range at byte 1"),
+        ("-0", "an index out of range at byte 1"),
+        ("256", "an index out of range at byte 1"),
+        (
+            "123456789012345678901234567890",
+            "an index out of range at byte 1",
+        ),
+        ("1 x 300", "no letter at byte 3"),
+    ] {
+        let got = answer(rt.alloc(), read_word(rt.alloc(), line.as_bytes()))?;
+        assert_eq!(rt; got.as_slice(), want.as_bytes(), "of {line:?}");
+    }
+    Ok(())
+}
+
+#[test]
+fn reads_the_strict_spelling_and_no_other(rt: HostRuntime) -> Result<(), Fail> {
+    for (line, want) in [
+        ("1 -2 3", "1 -2 3"),
+        ("", ""),
+        (" ", "no letter at byte 1"),
+        (" 1", "no letter at byte 1"),
+        ("1 ", "no letter at byte 3"),
+        ("1  2", "no letter at byte 3"),
+        ("1 256", "an index out of range at byte 3"),
+    ] {
+        let got = answer(rt.alloc(), read_strict_word(rt.alloc(), line.as_bytes()))?;
+        assert_eq!(rt; got.as_slice(), want.as_bytes(), "of {line:?}");
+    }
+    Ok(())
+}
+
+#[test]
+fn inverts_and_divides(rt: HostRuntime) -> Result<(), Fail> {
+    let alloc = rt.alloc();
+    let word = read_word(alloc, b"1 2 -3")?;
+    let inverted = inverse(alloc, word.letters())?;
+    assert_eq!(rt;
+        spelled(alloc, inverted.letters())?.as_slice(),
+        b"3 -2 -1".as_slice()
+    );
+    let left = read_word(alloc, b"1 2")?;
+    let right = read_word(alloc, b"2 1")?;
+    let divided = quotient(alloc, left.letters(), right.letters())?;
+    assert_eq!(rt;
+        spelled(alloc, divided.letters())?.as_slice(),
+        b"-2 -1 2 1".as_slice()
+    );
+    Ok(())
+}
+
+#[test]
+fn answers_the_sign_by_the_least_index(rt: HostRuntime) -> Result<(), Fail> {
+    for (line, want) in [
+        ("", Sign::Empty),
+        ("1 2", Sign::Positive(1)),
+        ("-2 3", Sign::Negative(2)),
+        ("1 2 -1", Sign::Mixed(1)),
+    ] {
+        let word = read_word(rt.alloc(), line.as_bytes())?;
+        assert_eq!(rt; sign_of(word.letters()), want, "of {line:?}");
+    }
+    Ok(())
+}
+
+#[test]
+fn makes_words_of_letters(rt: HostRuntime) -> Result<(), Fail> {
+    let alloc = rt.alloc();
+    let mut word = Word::from_letters(alloc, &[Letter::new(4, false), Letter::new(300, true)])?;
+    word.push(Letter::new(1, false))?;
+    assert_eq!(rt;
+        spelled(alloc, word.letters())?.as_slice(),
+        b"4 -300 1".as_slice()
+    );
+    Ok(())
+}
+
+#[test]
+fn reads_a_hundred_thousand_letters_and_no_more(rt: HostRuntime) -> Result<(), Fail> {
+    let alloc = rt.alloc();
+    let mut line = Vec::new(alloc);
+    for _ in 0..MAX_LETTERS {
+        line.extend_from_slice(b"1 ")?;
+    }
+    assert_eq!(rt; read_word(alloc, &line)?.letters().len(), MAX_LETTERS);
+    line.push(b'2')?;
+    let longer = answer(alloc, read_word(alloc, &line))?;
+    assert_eq!(rt; longer.as_slice(), b"100001 letters".as_slice());
+    Ok(())
+}
