@@ -1,0 +1,5 @@
+pub mod PairLemmas
+pub mod HandleLemmas
+pub mod ReductLemmas
+pub mod ReductLength
+pub mod NoHandleLemmas
