@@ -1,0 +1,4 @@
+pub mod RunLemmas
+pub mod SignOfReduced
+pub mod RunEquivalence
+pub mod ReducerLemmas

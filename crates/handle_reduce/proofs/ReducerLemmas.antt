@@ -1,0 +1,168 @@
+-- What one step of a reducer makes of its run.
+--
+-- The premises are the clauses of the calls that the step makes, over plain variables.
+use Rattle.std.proofs.Common.{◌≡◌, ℕ, ◌+◌, ◌<◌, ◌≤◌, List, [], ◌∷◌, ◌++◌, length, Option, Some, None, refl, ap, sym, subst, ◌∙◌, ◌-◌, add-one, arith}
+use Rattle.std.proofs.lemmas.Bool.{lt-ltb, le-ltb}
+use Rattle.braid_word.specs.Words.{Letter}
+use Rattle.handle_find.specs.Handles.{IsHandle, leftmost_of, reduct}
+use Rattle.handle_reduce.specs.Runs.{RunState, LimitedRun, IsRunAfter, judged, turn_of, turned, turns, run_after}
+use Rattle.handle_reduce.specs.declared.progress.Progress.{Progress}
+use Rattle.handle_reduce.specs.declared.progress.Progress.TheVariants.{Running, LengthMet}
+use Rattle.handle_find.proofs.HandleLemmas.{leftmost_of-Some}
+use Rattle.handle_reduce.proofs.RunLemmas.{turns-add, turns-ended, run_after-add}
+
+-- ---- The begin ----
+
+-- what a reducer is seen as, by its fields
+abbrev pub seen : ℕ → ℕ → Progress → List (ℕ × ℕ) → List Letter → LimitedRun
+seen handles limit progress steps present = record {
+  handles = handles;
+  limit = limit;
+  run = record { progress = progress; steps = steps; present = present };
+}
+
+-- a word that is too long
+pub IsRunAfter-long
+    : (w present : List Letter) (steps : List (ℕ × ℕ)) (handles limit : ℕ)
+    → present ≡ w
+    → steps ≡ []
+    → limit < length present
+    → IsRunAfter w handles limit 0 (seen handles limit LengthMet steps present)
+unfolding run_after
+IsRunAfter-long w present steps handles limit same none long =
+    let test = lt-ltb limit (length w) (rw same at long) in rw (same, none, test) refl
+
+-- a word that isn't
+pub IsRunAfter-short
+    : (w present : List Letter) (steps : List (ℕ × ℕ)) (handles limit : ℕ) (found : Option (ℕ × ℕ)) (progress : Progress)
+    → present ≡ w
+    → steps ≡ []
+    → length present ≤ limit
+    → found ≡ leftmost_of present
+    → progress ≡ judged handles 0 present found
+    → IsRunAfter w handles limit 0 (seen handles limit progress steps present)
+unfolding run_after
+IsRunAfter-short w present steps handles limit found progress same none short is judgement =
+    let test = le-ltb limit (length w) (rw same at short) in
+    rw (judgement, is, same, none, test) refl
+
+-- ---- A step ----
+
+-- the progress that is kept is that of the run
+pub goes_on
+    : (r : LimitedRun) (handles limit : ℕ) (now : Progress) (steps : List (ℕ × ℕ)) (present : List Letter)
+    → seen handles limit now steps present ≡ r
+    → r.run.progress ≡ Running
+    → now ≡ Running
+goes_on r handles limit now steps present view running =
+    ap (λ (s : LimitedRun). s.run.progress) view ∙ running
+
+-- with no handle left nothing changes
+pub turned-none
+    : (r : LimitedRun) (handles limit : ℕ) (now : Progress) (steps : List (ℕ × ℕ)) (present : List Letter) (found : Option (ℕ × ℕ))
+    → seen handles limit now steps present ≡ r
+    → r.run.progress ≡ Running
+    → found ≡ None
+    → found ≡ leftmost_of present
+    → r ≡ turned r 1
+unfolding turn_of
+turned-none r handles limit now steps present found view running none is =
+    let P : Progress → Type 0 = λ n. seen handles limit n steps present ≡ turned (seen handles limit n steps present) 1 in
+    rw (← view) (subst P (sym (goes_on r handles limit now steps present view running)) (rw (sym is ∙ none) refl))
+
+-- a reduct that is too long isn't taken
+pub turned-long
+    : (r : LimitedRun) (handles limit : ℕ) (now : Progress) (steps : List (ℕ × ℕ)) (present : List Letter) (found : Option (ℕ × ℕ)) (p q : ℕ)
+    → seen handles limit now steps present ≡ r
+    → r.run.progress ≡ Running
+    → found ≡ Some (p, q)
+    → found ≡ leftmost_of present
+    → limit < length (reduct present p q)
+    → seen handles limit LengthMet steps present ≡ turned r 1
+unfolding turn_of
+turned-long r handles limit now steps present found p q view running some is long =
+    let test = lt-ltb limit (length (reduct present p q)) long in
+    rw (← view) (rw (goes_on r handles limit now steps present view running, sym is ∙ some, test) refl)
+
+-- any other is
+pub turned-short
+    : (r : LimitedRun) (handles limit : ℕ) (now : Progress) (steps more : List (ℕ × ℕ)) (present next : List Letter) (found later : Option (ℕ × ℕ)) (p q made : ℕ) (progress : Progress)
+    → seen handles limit now steps present ≡ r
+    → r.run.progress ≡ Running
+    → found ≡ Some (p, q)
+    → found ≡ leftmost_of present
+    → length (reduct present p q) ≤ limit
+    → next ≡ reduct present p q
+    → more ≡ steps ++ (p + 1, q + 1) ∷ []
+    → made ≡ length steps + 1
+    → later ≡ leftmost_of next
+    → progress ≡ judged handles made next later
+    → seen handles limit progress more next ≡ turned r 1
+unfolding turn_of
+turned-short r handles limit now steps more present next found later p q made progress view running some is short written pushed count found_next judgement =
+    let test = le-ltb limit (length (reduct present p q)) short in
+    rw (← view) (rw (goes_on r handles limit now steps present view running, judgement, found_next, count, written, pushed, sym is ∙ some, test) refl)
+
+-- ---- What a running reducer knows ----
+
+-- the places that were found are a handle
+pub IsHandle-found
+    : (present word : List Letter) (found : Option (ℕ × ℕ)) (p q : ℕ)
+    → found ≡ leftmost_of present
+    → found ≡ Some (p, q)
+    → word ≡ present
+    → IsHandle word p q
+IsHandle-found present word found p q is some same =
+    rw same (leftmost_of-Some present p q (sym is ∙ some)).handle
+
+-- its places are small
+pub IsHandle-small
+    : (present : List Letter) (found : Option (ℕ × ℕ)) (p q : ℕ)
+    → found ≡ leftmost_of present
+    → found ≡ Some (p, q)
+    → length present ≤ 100000
+    → (p < q) × (q < 100000)
+IsHandle-small present found p q is some short =
+    let h = IsHandle-found present present found p q is some refl in (h.ordered, omega (arith, h.within))
+
+-- ---- Turns ----
+
+-- a run that has ended has made all its turns
+pub turned-ended
+    : (r now : LimitedRun) (t n : ℕ)
+    → now ≡ turned r t
+    → t ≤ n
+    → (now.run.progress ≡ Running → ⊥)
+    → now ≡ turned r n
+turned-ended r now t n is few ended =
+    let sum : t + (n - t) ≡ n = omega arith in
+    let run : now.run ≡ turns r.handles r.limit t r.run = ap (λ (s : LimitedRun). s.run) is in
+    let more : turns r.handles r.limit n r.run ≡ now.run
+    = rw sum at (turns-add r.handles r.limit t (n - t) r.run) ∙ rw (← run) (turns-ended r.handles r.limit (n - t) now.run ended) in
+    is ∙ ap (λ (s : RunState). record r { run = s }) (sym run ∙ sym more)
+
+-- a run that has ended stays as it is
+pub turned-stays
+    : (r now : LimitedRun) (t : ℕ)
+    → now ≡ turned r t
+    → (r.run.progress ≡ Running → ⊥)
+    → now ≡ r
+turned-stays r now t is ended =
+    is ∙ ap (λ (s : RunState). record r { run = s }) (turns-ended r.handles r.limit t r.run ended)
+
+-- one turn more
+pub turned-suc
+    : (r now next : LimitedRun) (t : ℕ)
+    → now ≡ turned r t
+    → next ≡ turned now 1
+    → next ≡ turned r (t + 1)
+turned-suc r now next t is step = rw (step, is, add-one) refl
+
+-- a reducer that is the run of a word after some turns is that run after more
+pub IsRunAfter-turned
+    : (w : List Letter) (handles limit t n : ℕ) (old new : LimitedRun)
+    → IsRunAfter w handles limit t old
+    → new ≡ turned old n
+    → IsRunAfter w handles limit (t + n) new
+IsRunAfter-turned w handles limit t n old new is more =
+    rw (more, is) (ap (λ (s : RunState). record { handles = handles; limit = limit; run = s }) (run_after-add w handles limit t n (run_after w handles limit t) refl))

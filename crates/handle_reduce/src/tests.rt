@@ -1,0 +1,203 @@
+use crate::progress::Progress::{self, Done, HandlesMet, LengthMet, Running};
+use crate::reducer::Reducer;
+use braid_word::{Account, Letter, Sign, Word};
+use std::alloc::Global;
+use std::process::Abort;
+use std::test::Fail;
+
+// How a run stands, its steps, and its present word as numbers, of which a negative one is an inverse.
+type State<'a> = (Progress, &'a [(u32, u32)], &'a [i32]);
+
+// The word of some numbers.
+fn word_of(rt: &impl Abort, alloc: Global, numbers: &[i32]) -> Result<Word, Fail> {
+    let mut word = Word::new(alloc);
+    for number in numbers {
+        let index = u16::try_from(number.unsigned_abs())?;
+        assert!(rt; 1 <= index && index < 65535);
+        word.push(Letter::new(index, *number < 0))?;
+    }
+    Ok(word)
+}
+
+// The run of the word of some numbers.
+fn begin(
+    rt: &impl Abort,
+    alloc: Global,
+    numbers: &[i32],
+    handles: u32,
+    limit: u32,
+) -> Result<Reducer, Fail> {
+    let word = word_of(rt, alloc, numbers)?;
+    assert!(rt; word.letters().len() <= 100_000);
+    assert!(rt; handles <= 100_000);
+    assert!(rt; limit <= 100_000);
+    Ok(Reducer::begin(alloc, word, handles, limit)?)
+}
+
+// Asserts how a run stands. The row and the turns are for the message.
+fn assert_stands(rt: &impl Abort, run: &Reducer, state: State, row: usize, turns: usize) {
+    let (progress, steps, present) = state;
+    assert_eq!(rt; run.progress(), progress, "row {row}, {turns} turns");
+    assert_eq!(rt;
+        run.steps_done() as usize,
+        steps.len(),
+        "row {row}, {turns} turns"
+    );
+    for k in 0..run.steps_done() {
+        assert_eq!(rt;
+            run.step_at(k),
+            steps[k as usize],
+            "row {row}, {turns} turns, step {k}"
+        );
+    }
+    assert_eq!(rt;
+        run.current_len() as usize,
+        present.len(),
+        "row {row}, {turns} turns"
+    );
+    for k in 0..run.current_len() {
+        let letter = run.current_at(k);
+        let index = i32::from(letter.index);
+        let number = if letter.negative { -index } else { index };
+        assert_eq!(rt;
+            number,
+            present[k as usize],
+            "row {row}, {turns} turns, letter {k}"
+        );
+    }
+}
+
+// Asserts how a run stands after 0, 1, .. turns, and that it stays as it is at the last of these.
+fn assert_goes_through(rt: &impl Abort, mut run: Reducer, states: &[State], row: usize) {
+    for (turns, state) in states.iter().enumerate() {
+        let progress = run.turn(u32::from(turns > 0));
+        assert_eq!(rt; progress, state.0, "row {row}, {turns} turns");
+        assert_stands(rt, &run, *state, row, turns);
+    }
+    assert!(rt; !states.is_empty());
+    let last = states[states.len() - 1];
+    for more in [1, 1000] {
+        assert_eq!(rt; run.turn(more), last.0, "row {row}, at its end");
+        assert_stands(rt, &run, last, row, states.len());
+    }
+}
+
+#[test]
+fn run_stands_after_each_turn_and_stays_at_its_end(rt: HostRuntime) -> Result<(), Fail> {
+    // The word, the limits on reductions and on letters, and how the run stands after 0, 1, .. turns.
+    let rows: [(&[i32], u32, u32, &[State]); 12] = [
+        (
+            &[-2, -1, 2, 1],
+            4,
+            100,
+            &[
+                (Running, &[], &[-2, -1, 2, 1]),
+                (Running, &[(2, 4)], &[-2, 2, 1, -2]),
+                (Done(Sign::Positive(1)), &[(2, 4), (1, 2)], &[1, -2]),
+            ],
+        ),
+        (
+            &[-2, -1, 2, 1],
+            1,
+            100,
+            &[
+                (Running, &[], &[-2, -1, 2, 1]),
+                (HandlesMet, &[(2, 4)], &[-2, 2, 1, -2]),
+            ],
+        ),
+        (
+            &[-2, -1, 2, 1],
+            2,
+            100,
+            &[
+                (Running, &[], &[-2, -1, 2, 1]),
+                (Running, &[(2, 4)], &[-2, 2, 1, -2]),
+                (Done(Sign::Positive(1)), &[(2, 4), (1, 2)], &[1, -2]),
+            ],
+        ),
+        (&[-2, -1, 2, 1], 4, 3, &[(LengthMet, &[], &[-2, -1, 2, 1])]),
+        (
+            &[-1, 2, 2, 1],
+            9,
+            5,
+            &[
+                (Running, &[], &[-1, 2, 2, 1]),
+                (LengthMet, &[], &[-1, 2, 2, 1]),
+            ],
+        ),
+        (
+            &[-1, 2, 2, 1],
+            9,
+            6,
+            &[
+                (Running, &[], &[-1, 2, 2, 1]),
+                (Running, &[(1, 4)], &[2, 1, -2, 2, 1, -2]),
+                (Done(Sign::Positive(1)), &[(1, 4), (3, 4)], &[2, 1, 1, -2]),
+            ],
+        ),
+        (&[-1, 2, 2, 1], 0, 3, &[(LengthMet, &[], &[-1, 2, 2, 1])]),
+        (&[-1, 2, 2, 1], 0, 5, &[(HandlesMet, &[], &[-1, 2, 2, 1])]),
+        (&[-1, 2], 0, 2, &[(Done(Sign::Negative(1)), &[], &[-1, 2])]),
+        (&[], 0, 0, &[(Done(Sign::Empty), &[], &[])]),
+        (
+            &[1, 2, -2, -1],
+            9,
+            9,
+            &[
+                (Running, &[], &[1, 2, -2, -1]),
+                (Running, &[(2, 3)], &[1, -1]),
+                (Done(Sign::Empty), &[(2, 3), (1, 2)], &[]),
+            ],
+        ),
+        (
+            &[-1, 2, -3, -2, -1, 3, 1, -2, 1],
+            1000,
+            1000,
+            &[
+                (Running, &[], &[-1, 2, -3, -2, -1, 3, 1, -2, 1]),
+                (Running, &[(2, 4)], &[-1, -3, -2, 3, -1, 3, 1, -2, 1]),
+                (Running, &[(2, 4), (5, 7)], &[-1, -3, -2, 3, 3, -2, 1]),
+                (
+                    Running,
+                    &[(2, 4), (5, 7), (1, 7)],
+                    &[-3, 2, -1, -2, 3, 3, 2, -1, -2],
+                ),
+                (
+                    Running,
+                    &[(2, 4), (5, 7), (1, 7), (4, 7)],
+                    &[-3, 2, -1, 3, 2, -3, 3, 2, -3, -1, -2],
+                ),
+                (
+                    Done(Sign::Negative(1)),
+                    &[(2, 4), (5, 7), (1, 7), (4, 7), (6, 7)],
+                    &[-3, 2, -1, 3, 2, 2, -3, -1, -2],
+                ),
+            ],
+        ),
+    ];
+    for (row, (numbers, handles, limit, states)) in rows.into_iter().enumerate() {
+        let run = begin(&rt, rt.alloc(), numbers, handles, limit)?;
+        assert_goes_through(&rt, run, states, row);
+    }
+    Ok(())
+}
+
+#[test]
+fn turns_are_cut_anywhere(rt: HostRuntime) -> Result<(), Fail> {
+    let numbers = [-1, 2, -3, -2, -1, 3, 1, -2, 1];
+    let two_turns: State = (Running, &[(2, 4), (5, 7)], &[-1, -3, -2, 3, 3, -2, 1]);
+    let end: State = (
+        Done(Sign::Negative(1)),
+        &[(2, 4), (5, 7), (1, 7), (4, 7), (6, 7)],
+        &[-3, 2, -1, 3, 2, 2, -3, -1, -2],
+    );
+    for (row, (first, second)) in [(1, 1), (2, 0), (0, 2)].iter().enumerate() {
+        let mut run = begin(&rt, rt.alloc(), &numbers, 1000, 1000)?;
+        run.turn(*first);
+        assert_eq!(rt; run.turn(*second), Running, "row {row}");
+        assert_stands(&rt, &run, two_turns, row, 2);
+        assert_eq!(rt; run.turn(u32::MAX), end.0, "row {row}");
+        assert_stands(&rt, &run, end, row, 5);
+    }
+    Ok(())
+}
