@@ -1,0 +1,2 @@
+pub mod FreeWords
+pub mod FreeText
