@@ -1,0 +1,27 @@
+ghost use Rattle.std.specs.Prelude.{[], ◌∷◌, true, false};
+ghost use Rattle.braid_word.specs.Equivalence.{Equivalent};
+ghost use Rattle.braid_word.specs.Order.{IsSigmaPositiveAt, IsLess, IsEqual, IsGreater};
+ghost use Rattle.free_word.specs.FreeWords.{gen};
+ghost use Rattle.artin_laws.specs.Action.{ActAlike, EndsIn, act};
+
+use braid_word::Letter;
+
+/// Equivalent braid words have the same action on free words.
+pub fn law_relations(u: &[Letter], v: &[Letter])
+    ensures { Equivalent u.now v.now → ActAlike u.now v.now }
+{}
+
+/// A word that is sigma-positive at `i` sends the generator of index `i` to a word that ends in its
+/// inverse.
+///
+/// After Larue.
+pub fn law_larue(word: &[Letter], i: u16)
+    ensures { IsSigmaPositiveAt i word.now → EndsIn (gen i true) (act word.now (gen i false ∷ [])) }
+{}
+
+/// No two of the verdicts less, equal and greater hold of two braid words.
+pub fn law_exclusive(u: &[Letter], v: &[Letter])
+    ensures less_equal { IsLess u.now v.now → IsEqual u.now v.now → ⊥ }
+    ensures less_greater { IsLess u.now v.now → IsGreater u.now v.now → ⊥ }
+    ensures equal_greater { IsEqual u.now v.now → IsGreater u.now v.now → ⊥ }
+{}
