@@ -1,0 +1,244 @@
+-- Laws of the fields of a line: words, places and verdicts behind a keyword.
+--
+-- For each kind of field, what is read is spelled so (`field_word-is`, `first_place-is`,
+-- `verdict_by-is`), and what is spelled so is read.
+use Rattle.std.proofs.Common.{◌≡◌, ℕ, ◌<◌, Bool, true, false, cond, List, [], ◌∷◌, ◌++◌, length, drop, codes, decimal, Option, Some, None, Result, Ok, Err, refl, ap, ap₂, sym, ◌∙◌, subst, arith}
+use Rattle.std.specs.Str.{bytes_eq}
+use Rattle.std.proofs.lemmas.Bool.{and_parts, and_from, eqb-true, lt-ltb, ltb-true}
+use Rattle.std.proofs.lemmas.Option.{cond_some}
+use Rattle.std.proofs.lemmas.Slice.Eq.{bytes_eq-Decides}
+use Rattle.std.proofs.lemmas.List.{append-nil}
+use Rattle.std.proofs.Math.Seq.{drop-append_seam}
+use Rattle.wb_base.specs.Numbers.{digits_in_front, number_at}
+use Rattle.wb_base.proofs.NumberLemmas.{number_at-decimal, number_at-is}
+use Rattle.braid_word.specs.Words.{Letter}
+use Rattle.braid_word.specs.Notation.{strict_word_of, IsReadable, word_text}
+use Rattle.braid_word.specs.declared.reader.WordErr.{WordErr}
+use Rattle.braid_word.specs.declared.reader.WordErr.TheVariants as word_errors
+use Rattle.braid_word.proofs.NotationLemmas.{word_text-nil}
+use Rattle.braid_word.proofs.SpellingLemmas.{Ok-injective, strict_word_of-is, strict_word_of-word_text, length-word_text}
+use Rattle.trace_format.specs.declared.verdict.Verdict.{Verdict}
+use Rattle.trace_format.specs.declared.verdict.Verdict.TheVariants.{Less, Equal, Greater}
+use Rattle.trace_format.specs.declared.line.StepLine.{StepLine}
+use Rattle.trace_format.specs.declared.line.StepLine.TheVariants.{Handle}
+use Rattle.trace_format.specs.declared.line.LineErr.TheVariants.{Form}
+use Rattle.trace_format.specs.TraceText.{word_field, verdict_word}
+use Rattle.trace_format.specs.TraceLines.{strict_result, field_word, placed_by, place_at, last_place, first_place, verdict_by, IsPlace, IsStepLine}
+use Rattle.trace_format.proofs.TraceLemmas.{word_field-some}
+
+-- What can stand behind a keyword: nothing, or a space and more.
+abbrev pub IsBehind : List ℕ → Type 0
+IsBehind [] = Unit {0}
+IsBehind (byte ∷ bytes) = byte ≡ 32
+
+-- ---- Words ----
+
+-- a word whose reading is no fault was read
+strict_result-is
+    : (r : Result (List Letter) WordErr) (w : List Letter)
+    → strict_result r ≡ Ok w
+    → r ≡ Ok w
+strict_result-is (Ok v) w is = ap Ok (Ok-injective v w is)
+strict_result-is (Err (word_errors.TooLong count)) w is = absurd (cc)
+strict_result-is (Err (word_errors.BadLetter place)) w is = absurd (cc)
+strict_result-is (Err (word_errors.BadIndex place)) w is = absurd (cc)
+strict_result-is (Err word_errors.Memory) w is = absurd (cc)
+
+-- a word whose spelling has a byte has a letter
+length-from_word_text : (w : List Letter) → 0 < length (word_text w) → 0 < length w
+length-from_word_text [] some = absurd (omega (arith, ap length word_text-nil))
+length-from_word_text (x ∷ w) some = omega arith
+
+-- What some bytes behind a keyword are where a word was read.
+pub record IsField (behind : List ℕ) (w : List Letter) : Type 0 where
+  pub text : behind ≡ word_field w
+  pub readable : IsReadable w
+
+-- a word that is read behind a keyword stands so there
+pub field_word-is
+    : (behind : List ℕ) (w : List Letter)
+    → IsBehind behind
+    → field_word behind ≡ Ok w
+    → IsField behind w
+field_word-is [] w spaced read =
+    subst (IsField []) (Ok-injective _ _ read) (record {
+      text = refl;
+      readable = record { short = omega arith; on = tt };
+    })
+field_word-is (space ∷ []) w spaced read = absurd (cc)
+field_word-is (space ∷ (byte ∷ bytes)) w spaced read =
+    let word = strict_word_of-is (byte ∷ bytes) w (strict_result-is _ w read) in
+    let some : 0 < length (word_text w) = omega (arith, ap length word.text) in
+    record {
+      text = ap₂ (λ (b : ℕ) text. b ∷ text) spaced word.text
+          ∙ sym (word_field-some w (length-from_word_text w some));
+      readable = word.readable;
+    }
+
+-- a space and a byte are followed by a word
+field_word-some
+    : (bytes : List ℕ)
+    → 0 < length bytes
+    → field_word (32 ∷ bytes) ≡ strict_result (strict_word_of bytes)
+field_word-some [] some = absurd (omega arith)
+field_word-some (byte ∷ bytes) some = refl
+
+-- a word that can be read is read behind a keyword
+pub field_word-word_field : (w : List Letter) → IsReadable w → field_word (word_field w) ≡ Ok w
+field_word-word_field [] readable = refl
+field_word-word_field (x ∷ w) readable =
+    field_word-some (word_text (x ∷ w)) (length-word_text x w readable.on)
+    ∙ ap strict_result (strict_word_of-word_text (x ∷ w) readable)
+
+-- it stands behind a keyword
+pub IsBehind-word_field : (w : List Letter) → IsBehind (word_field w)
+IsBehind-word_field [] = tt
+IsBehind-word_field (x ∷ w) = refl
+
+-- ---- Places ----
+
+-- what is found where a test passes
+Some-cond
+    : {A : Type 0} (b : Bool) (o : Option A) (y : A)
+    → cond b o None ≡ Some y
+    → (b ≡ true) × (o ≡ Some y)
+Some-cond true o y is = (refl, is)
+Some-cond false o y is = absurd (cc)
+
+-- What some bytes are where a place stands in front, and these are left.
+record IsPlaced (bytes : List ℕ) (p : ℕ) (rest : List ℕ) : Type 0 where
+  text : bytes ≡ decimal p ++ rest
+  place : IsPlace p
+
+-- a number in front that is a place stands there
+placed_by-is
+    : (bytes : List ℕ) (number : Option (ℕ × ℕ)) (p : ℕ) (rest : List ℕ)
+    → number_at bytes ≡ number
+    → placed_by bytes number ≡ Some (p, rest)
+    → IsPlaced bytes p rest
+placed_by-is bytes None p rest read placed = absurd (cc)
+placed_by-is bytes (Some (n, digits)) p rest read placed =
+    let (within, is) = cond_some _ _ _ placed in
+    let (some, below) = and_parts _ _ within in
+    let value : n ≡ p = ap (λ (q : ℕ × List ℕ). q.0) is in
+    let left : drop digits bytes ≡ rest = ap (λ (q : ℕ × List ℕ). q.1) is in
+    let low : 0 < n = ltb-true 0 n some in
+    let high : n < 4294967296 = ltb-true n 4294967296 below in
+    record {
+      text = (number_at-is bytes n digits read).is
+          ∙ ap₂ (λ k (left : List ℕ). decimal k ++ left) value left;
+      place = (omega arith, omega arith);
+    }
+
+-- a place that is read stands behind a space
+place_at-is
+    : (behind : List ℕ) (p : ℕ) (rest : List ℕ)
+    → place_at behind ≡ Some (p, rest)
+    → (behind ≡ 32 ∷ (decimal p ++ rest)) × IsPlace p
+place_at-is [] p rest read = absurd (cc)
+place_at-is (byte ∷ bytes) p rest read =
+    let (space, placed) = Some-cond _ _ _ read in
+    let is = placed_by-is bytes (number_at bytes) p rest refl placed in
+    (ap₂ (λ (b : ℕ) text. b ∷ text) (eqb-true byte 32 space) is.text, is.place)
+
+-- a place is read where no digit follows it
+place_at-decimal
+    : (p : ℕ) (rest : List ℕ)
+    → IsPlace p
+    → digits_in_front rest ≡ []
+    → place_at (32 ∷ (decimal p ++ rest)) ≡ Some (p, rest)
+place_at-decimal p rest place none =
+    let text = decimal p ++ rest in
+    let within = and_from _ _ (lt-ltb 0 p place.0) (lt-ltb p 4294967296 place.1) in
+    ap (placed_by text) (number_at-decimal p rest (omega arith) none)
+    ∙ rw within (ap (λ left. Some (p, left)) (drop-append_seam (decimal p) rest))
+
+-- ---- Steps ----
+
+-- What stands behind the keyword of a step.
+abbrev pub places_text : StepLine → List ℕ
+places_text (Handle p q) = 32 ∷ (decimal p ++ (32 ∷ decimal q))
+
+-- What some bytes behind a keyword are where a step was read.
+pub record ArePlaces (behind : List ℕ) (step : StepLine) : Type 0 where
+  pub text : behind ≡ places_text step
+  pub bounds : IsStepLine step
+
+-- a second place that is read is all that is left
+last_place-is
+    : (p : ℕ) (bytes : List ℕ) (found : Option (ℕ × List ℕ)) (step : StepLine)
+    → place_at bytes ≡ found
+    → last_place p found ≡ Ok step
+    → (q : ℕ) × (Handle p q ≡ step) × (bytes ≡ 32 ∷ decimal q) × IsPlace q
+last_place-is p bytes None step read is = absurd (cc)
+last_place-is p bytes (Some (q, [])) step read is =
+    let (text, place) = place_at-is bytes q [] read in
+    (q, Ok-injective _ _ is, text ∙ ap (λ ds. 32 ∷ ds) (append-nil (decimal q)), place)
+last_place-is p bytes (Some (q, byte ∷ rest)) step read is = absurd (cc)
+
+-- the same of the first
+first_place-by
+    : (behind : List ℕ) (found : Option (ℕ × List ℕ)) (step : StepLine)
+    → place_at behind ≡ found
+    → first_place found ≡ Ok step
+    → ArePlaces behind step
+first_place-by behind None step read is = absurd (cc)
+first_place-by behind (Some (p, rest)) step read is =
+    let (text, place) = place_at-is behind p rest read in
+    let (q, same, last, other) = last_place-is p rest (place_at rest) step refl is in
+    subst (ArePlaces behind) same (record {
+      text = text ∙ ap (λ left. 32 ∷ (decimal p ++ left)) last;
+      bounds = (place, other);
+    })
+
+-- a step that is read stands so
+pub first_place-is
+    : (behind : List ℕ) (step : StepLine)
+    → first_place (place_at behind) ≡ Ok step
+    → ArePlaces behind step
+first_place-is behind step = first_place-by behind (place_at behind) step refl
+
+-- a step is read from its places
+pub first_place-places_text
+    : (step : StepLine)
+    → IsStepLine step
+    → first_place (place_at (places_text step)) ≡ Ok step
+first_place-places_text (Handle p q) bounds =
+    let last = rw append-nil at (place_at-decimal q [] bounds.1 refl) in
+    ap first_place (place_at-decimal p (32 ∷ decimal q) bounds.0 refl) ∙ ap (last_place p) last
+
+-- ---- Verdicts ----
+
+-- what is read where some bytes are a text, or else by another test
+cond-bytes_eq
+    : {A E : Type 0} (P : A → Type 0) (bytes text : List ℕ) (x : A) (other : Result A E) (y : A)
+    → cond (bytes_eq bytes text) (Ok x) other ≡ Ok y
+    → (bytes ≡ text → P x)
+    → (other ≡ Ok y → P y)
+    → P y
+cond-bytes_eq P bytes text x other y is same else = go (bytes_eq bytes text) refl is
+  where
+    go : (b : Bool) → bytes_eq bytes text ≡ b → cond b (Ok x) other ≡ Ok y → P y
+    go true test read =
+        subst P (Ok-injective x y read) (same ((bytes_eq-Decides bytes text).0 test))
+    go false test read = else read
+
+-- a verdict that is read stands so behind its keyword
+pub verdict_by-is
+    : (behind : List ℕ) (v : Verdict)
+    → verdict_by behind ≡ Ok v
+    → behind ≡ 32 ∷ verdict_word v
+verdict_by-is behind v read =
+    cond-bytes_eq stands behind (codes " less") Less _ v read (λ is. is)
+    (λ more. cond-bytes_eq stands behind (codes " equal") Equal _ v more (λ is. is)
+    (λ last. cond-bytes_eq stands behind (codes " greater") Greater (Err Form) v last (λ is. is)
+    (λ none. absurd (cc))))
+  where
+    stands : Verdict → Type 0
+    stands v = behind ≡ 32 ∷ verdict_word v
+
+-- a verdict is read behind its keyword
+pub verdict_by-verdict_word : (v : Verdict) → verdict_by (32 ∷ verdict_word v) ≡ Ok v
+verdict_by-verdict_word Less = refl
+verdict_by-verdict_word Equal = refl
+verdict_by-verdict_word Greater = refl

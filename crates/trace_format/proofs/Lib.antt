@@ -1,0 +1,3 @@
+pub mod TraceLemmas
+pub mod FieldLemmas
+pub mod LineLaws

@@ -1,0 +1,11 @@
+use Rattle.std.proofs.Common.{[], ◌∷◌, refl}
+use Rattle.wb_base.proofs.StreamLemmas.{Puts-stopped, Puts-more}
+use Rattle.trace_format.proofs.trace.put_next_letter.Goals as goal
+
+pub returns-in_err-give_all-clause-took : goal.returns-in_err-give_all-clause-took
+returns-in_err-give_all-clause-took g c =
+    Puts-stopped _ _ _ _ (32 ∷ []) _ refl c.from_residual.ensures.0 c.in_err-give_all.ensures.took
+
+pub returns-clause-took : goal.returns-clause-took
+returns-clause-took g c =
+    Puts-more _ _ _ _ _ (32 ∷ []) _ refl c.in_ok-give_all.ensures.took c.put_letter.ensures.took

@@ -1,0 +1,59 @@
+-- The text of a trace file, version 1.
+--
+-- A trace says of two words what the order of their braids is, by which steps that was found, and shows
+-- a word by which it can be seen. Each line ends with LF (byte 10); fields are parted by one space.
+-- Source: this project's own.
+--
+--   Trace           what a trace file says
+--   trace_text t    its text
+use Rattle.std.specs.Prelude.{ℕ, List, [], ◌∷◌, ◌++◌, codes, decimal}
+use Rattle.std.specs.List.{flat_map}
+use Rattle.wb_base.specs.Lines.{line}
+use Rattle.braid_word.specs.Words.{Letter}
+use Rattle.braid_word.specs.Notation.{word_text}
+use Rattle.trace_format.specs.declared.line.StepLine.{StepLine}
+use Rattle.trace_format.specs.declared.line.StepLine.TheVariants.{Handle}
+use Rattle.trace_format.specs.declared.verdict.Verdict.{Verdict}
+use Rattle.trace_format.specs.declared.verdict.Verdict.TheVariants.{Less, Equal, Greater}
+
+-- Two words, the steps from their quotient on, the verdict, and the word that was reached.
+pub record Trace : Type 0 where
+  pub left : List Letter
+  pub right : List Letter
+  pub steps : List StepLine
+  pub verdict : Verdict
+  pub witness : List Letter
+
+-- A word behind its keyword: nothing for the empty word, else a space and its strict spelling.
+abbrev pub word_field : List Letter → List ℕ
+word_field [] = []
+word_field (x ∷ w) = 32 ∷ word_text (x ∷ w)
+
+-- A step: the handle at two places, counted from 1 in the word before it, is `h 2 4`.
+abbrev pub step_text : StepLine → List ℕ
+step_text (Handle p q) = codes "h " ++ (decimal p ++ (32 ∷ decimal q))
+
+abbrev pub step_line : StepLine → List ℕ
+step_line step = line (step_text step)
+
+-- The step that reduces the handle at a pair of places.
+abbrev pub handle_step : ℕ × ℕ → StepLine
+handle_step (p, q) = Handle p q
+
+abbrev pub verdict_word : Verdict → List ℕ
+verdict_word Less = codes "less"
+verdict_word Equal = codes "equal"
+verdict_word Greater = codes "greater"
+
+-- The lines before the steps, and those behind them.
+abbrev pub head_text : List Letter → List Letter → List ℕ
+head_text left right =
+    line (codes "braid-trace 1") ++ line (codes "left" ++ word_field left) ++ line (codes "right" ++ word_field right)
+
+abbrev pub tail_text : Verdict → List Letter → List ℕ
+tail_text verdict witness =
+    line (codes "verdict " ++ verdict_word verdict) ++ line (codes "witness" ++ word_field witness) ++ line (codes "end")
+
+-- The text of a trace file.
+unfoldable pub trace_text : Trace → List ℕ
+trace_text t = head_text t.left t.right ++ flat_map step_line t.steps ++ tail_text t.verdict t.witness

@@ -1,0 +1,13 @@
+//! Trace files: their lines, and their text.
+#![tactic(auto)]
+
+mod line;
+#[cfg(test)]
+mod tests;
+mod text;
+mod trace;
+mod verdict;
+
+pub use line::{Kind, Line, LineErr, StepLine, kind_of, read_line};
+pub use trace::put_trace;
+pub use verdict::{Verdict, verdict_of};

@@ -1,0 +1,109 @@
+ghost use Rattle.std.specs.Prelude.{[], ◌∷◌, true, false};
+ghost use Rattle.braid_word.specs.Words.{letter};
+
+use crate::{Kind, Verdict, kind_of, put_trace, read_line};
+use braid_word::{Account, Letter, read_strict_word};
+use std::alloc::Global;
+use std::test::Fail;
+use wb_base::MemSink;
+
+// What a line says, or the text of its fault.
+fn answer(alloc: Global, line: &[u8]) -> Result<String, Fail> {
+    match read_line(alloc, line) {
+        Ok(line) => Ok(format!(in alloc; "{line:?}")?),
+        Err(error) => Ok(error.to_string(alloc)?),
+    }
+}
+
+#[test]
+fn names_the_kind_of_a_line_by_its_first_word(rt: HostRuntime) -> Result<(), Fail> {
+    for (line, want) in [
+        ("braid-trace 1", Some(Kind::Start)),
+        ("left", Some(Kind::Left)),
+        ("right x", Some(Kind::Right)),
+        ("h  ", Some(Kind::Step)),
+        ("verdict", Some(Kind::Verdict)),
+        ("witness 1", Some(Kind::Witness)),
+        ("end 1", Some(Kind::Finish)),
+        ("", None),
+        (" left", None),
+        ("leftover", None),
+        ("Left 1", None),
+    ] {
+        assert_eq!(rt; kind_of(line.as_bytes()), want, "of {line:?}");
+    }
+    Ok(())
+}
+
+#[test]
+fn reads_the_text_of_a_line_and_nothing_else(rt: HostRuntime) -> Result<(), Fail> {
+    for (line, want) in [
+        ("braid-trace 1", "Start"),
+        ("braid-trace 2", "not of the form"),
+        ("left", "Left(Word { letters: [] })"),
+        ("left ", "not of the form"),
+        (
+            "right -2",
+            "Right(Word { letters: [Letter { index: 2, negative: true }] })",
+        ),
+        ("right 1  2", "not of the form"),
+        ("witness 256", "not of the form"),
+        ("h 2 4", "Step(Handle(2, 4))"),
+        ("h 4294967295 1", "Step(Handle(4294967295, 1))"),
+        ("h 4294967296 1", "not of the form"),
+        ("h 18446744073709551616 1", "not of the form"),
+        ("h 0 4", "not of the form"),
+        ("h 02 4", "not of the form"),
+        ("h 2", "not of the form"),
+        ("h 2 4 ", "not of the form"),
+        ("verdict equal", "Verdict(Equal)"),
+        ("verdict lesser", "not of the form"),
+        ("end", "Finish"),
+        ("end ", "not of the form"),
+        ("ends", "no keyword"),
+    ] {
+        let got = answer(rt.alloc(), line.as_bytes())?;
+        assert_eq!(rt; got.as_str(), want, "of {line:?}");
+    }
+    Ok(())
+}
+
+// A run that reduced the handle of `1 2 -1`, and has reached `-2 1 2`.
+struct OneStep;
+
+impl Account for OneStep {
+    ghost steps = { λ _. (1, 3) ∷ [] };
+
+    ghost current = { λ _. letter 2 true ∷ letter 1 false ∷ letter 2 false ∷ [] };
+
+    fn steps_done(&self) -> u32 {
+        1
+    }
+
+    fn step_at(&self, _k: u32) -> (u32, u32) {
+        (1, 3)
+    }
+
+    fn current_len(&self) -> u32 {
+        3
+    }
+
+    fn current_at(&self, k: u32) -> Letter {
+        match k {
+            0 => Letter::new(2, true),
+            1 => Letter::new(1, false),
+            _ => Letter::new(2, false),
+        }
+    }
+}
+
+#[test]
+fn writes_a_trace_file(rt: HostRuntime) -> Result<(), Fail> {
+    let alloc = rt.alloc();
+    let right = read_strict_word(alloc, b"1 2 -1")?;
+    let mut sink = MemSink::new(alloc, 128, 5, &[])?;
+    put_trace(&mut sink, &[], right.letters(), &OneStep, Verdict::Less)?;
+    let want = "braid-trace 1\nleft\nright 1 2 -1\nh 1 3\nverdict less\nwitness -2 1 2\nend\n";
+    assert_eq!(rt; sink.bytes(), want.as_bytes());
+    Ok(())
+}

@@ -1,0 +1,35 @@
+ghost use Rattle.std.specs.Prelude.{◌≡◌, ◌++◌};
+ghost use Rattle.wb_base.specs.Lines.{line};
+ghost use Rattle.wb_base.specs.Streams.{HasCause, Puts};
+ghost use Rattle.trace_format.specs.TraceText.{word_field};
+
+use braid_word::{Letter, put_word};
+use wb_base::{Failed, Sink, give_all};
+
+// Gives what stands of a word behind its keyword.
+fn put_word_field<K: Sink>(sink: &mut K, word: &[Letter]) -> Result<(), Failed>
+    ensures took { Puts (K.taken sink.old) (K.taken sink.new) result (word_field word.now) }
+    ensures cause { HasCause (K.faults sink.old) (K.faults sink.new) result }
+{
+    match word {
+        [] => Ok(()),
+        [_, ..] => {
+            give_all(sink, b" ")?;
+            put_word(sink, word)
+        }
+    }
+}
+
+// Gives a keyword and a word as a line.
+pub(crate) fn put_word_line<K: Sink>(
+    sink: &mut K,
+    keyword: &[u8],
+    word: &[Letter],
+) -> Result<(), Failed>
+    ensures took { Puts (K.taken sink.old) (K.taken sink.new) result (line (keyword.now ++ word_field word.now)) }
+    ensures cause { HasCause (K.faults sink.old) (K.faults sink.new) result }
+{
+    give_all(sink, keyword)?;
+    put_word_field(sink, word)?;
+    give_all(sink, b"\n")
+}

@@ -1,0 +1,118 @@
+ghost use Rattle.std.specs.Prelude.{◌≡◌, ◌++◌, ◌∷◌, [], decimal, codes, map};
+ghost use Rattle.std.specs.List.{flat_map};
+ghost use Rattle.wb_base.specs.Streams.{HasCause, Puts};
+ghost use Rattle.braid_word.specs.Notation.{next_text};
+ghost use Rattle.wb_base.specs.Lines.{line};
+ghost use Rattle.trace_format.specs.TraceText.{word_field, step_line, handle_step, verdict_word, head_text, tail_text, trace_text};
+
+use crate::text::put_word_line;
+use crate::verdict::Verdict;
+use braid_word::{Account, Letter, put_letter};
+use wb_base::{Failed, Sink, give_all, put_line, put_numbered, put_numbered_line};
+
+// Gives the line of a step on the handle at two places, counted from 1.
+fn put_step<K: Sink>(sink: &mut K, step: (u32, u32)) -> Result<(), Failed>
+    ensures took { Puts (K.taken sink.old) (K.taken sink.new) result (step_line (handle_step step)) }
+    ensures cause { HasCause (K.faults sink.old) (K.faults sink.new) result }
+{
+    let (start, end) = step;
+    put_numbered(sink, b"h ", u64::from(start))?;
+    put_numbered_line(sink, b" ", u64::from(end))
+}
+
+// Gives the lines of all steps of an account.
+fn put_steps<K: Sink, A: Account>(sink: &mut K, account: &A) -> Result<(), Failed>
+    ensures took { Puts (K.taken sink.old) (K.taken sink.new) result (flat_map step_line (map handle_step (A.steps account.now))) }
+    ensures cause { HasCause (K.faults sink.old) (K.faults sink.new) result }
+{
+    for k in 0..account.steps_done() {
+        put_step(sink, account.step_at(k))?;
+    }
+    Ok(())
+}
+
+// Gives a letter behind a space.
+fn put_next_letter<K: Sink>(sink: &mut K, letter: Letter) -> Result<(), Failed>
+    ensures took { Puts (K.taken sink.old) (K.taken sink.new) result (next_text letter) }
+    ensures cause { HasCause (K.faults sink.old) (K.faults sink.new) result }
+{
+    give_all(sink, b" ")?;
+    put_letter(sink, letter)
+}
+
+// Gives the letters of the word that an account has reached, each behind a space.
+fn put_current<K: Sink, A: Account>(sink: &mut K, account: &A) -> Result<(), Failed>
+    ensures took { Puts (K.taken sink.old) (K.taken sink.new) result (word_field (A.current account.now)) }
+    ensures cause { HasCause (K.faults sink.old) (K.faults sink.new) result }
+{
+    for k in 0..account.current_len() {
+        put_next_letter(sink, account.current_at(k))?;
+    }
+    Ok(())
+}
+
+// Gives the witness line.
+fn put_witness<K: Sink, A: Account>(sink: &mut K, account: &A) -> Result<(), Failed>
+    ensures took { Puts (K.taken sink.old) (K.taken sink.new) result (line (codes "witness" ++ word_field (A.current account.now))) }
+    ensures cause { HasCause (K.faults sink.old) (K.faults sink.new) result }
+{
+    give_all(sink, b"witness")?;
+    put_current(sink, account)?;
+    give_all(sink, b"\n")
+}
+
+// The verdict line, without its LF.
+fn verdict_line(verdict: Verdict) -> &'static [u8]
+    ensures { result.now ≡ codes "verdict " ++ verdict_word verdict }
+{
+    match verdict {
+        Verdict::Less => b"verdict less",
+        Verdict::Equal => b"verdict equal",
+        Verdict::Greater => b"verdict greater",
+    }
+}
+
+// Gives the verdict line.
+fn put_verdict<K: Sink>(sink: &mut K, verdict: Verdict) -> Result<(), Failed>
+    ensures took { Puts (K.taken sink.old) (K.taken sink.new) result (line (codes "verdict " ++ verdict_word verdict)) }
+    ensures cause { HasCause (K.faults sink.old) (K.faults sink.new) result }
+{
+    put_line(sink, verdict_line(verdict))
+}
+
+// Gives the lines before the steps.
+fn put_head<K: Sink>(sink: &mut K, left: &[Letter], right: &[Letter]) -> Result<(), Failed>
+    ensures took { Puts (K.taken sink.old) (K.taken sink.new) result (head_text left.now right.now) }
+    ensures cause { HasCause (K.faults sink.old) (K.faults sink.new) result }
+{
+    put_line(sink, b"braid-trace 1")?;
+    put_word_line(sink, b"left", left)?;
+    put_word_line(sink, b"right", right)
+}
+
+// Gives the lines behind the steps.
+fn put_tail<K: Sink, A: Account>(sink: &mut K, account: &A, verdict: Verdict) -> Result<(), Failed>
+    ensures took { Puts (K.taken sink.old) (K.taken sink.new) result (tail_text verdict (A.current account.now)) }
+    ensures cause { HasCause (K.faults sink.old) (K.faults sink.new) result }
+{
+    put_verdict(sink, verdict)?;
+    put_witness(sink, account)?;
+    put_line(sink, b"end")
+}
+
+/// Gives the trace file of two words: its steps and its witness are those of the account.
+pub fn put_trace<K: Sink, A: Account>(
+    sink: &mut K,
+    left: &[Letter],
+    right: &[Letter],
+    account: &A,
+    verdict: Verdict,
+) -> Result<(), Failed>
+    ensures took { Puts (K.taken sink.old) (K.taken sink.new) result
+        (trace_text (record { left = left.now; right = right.now; steps = map handle_step (A.steps account.now); verdict = verdict; witness = A.current account.now })) }
+    ensures cause { HasCause (K.faults sink.old) (K.faults sink.new) result }
+{
+    put_head(sink, left, right)?;
+    put_steps(sink, account)?;
+    put_tail(sink, account, verdict)
+}
