@@ -1,0 +1,113 @@
+ghost use Rattle.std.specs.Prelude.{◌≡◌, ◌≢◌, ◌+◌, ◌≤◌, ℕ, List, ◌⊎◌, IfOk, IfSome, Some, None, drop, map, string_bytes};
+ghost use Rattle.std.specs.Option.{option_map};
+ghost use Rattle.std.specs.Io.KnownBytes.{append_known};
+ghost use Rattle.wb_base.specs.Streams.{Rose};
+ghost use Rattle.wb_top.specs.Commands.{command_of, IsBounded};
+ghost use Rattle.wb_top.specs.Answers.{Answer, Told, IsTold, usage, out, out_of, out_of_short};
+ghost use Rattle.wb_top.specs.Outcomes.{answer_of};
+ghost use Rattle.wb_top.specs.Promises.{Says};
+ghost use Rattle.wb_top.specs.declared.program.Stop.TheVariants.{Memory};
+
+use crate::MAX_INPUT;
+use crate::command::{Command, read_command};
+use crate::compare::compare;
+use crate::outcome::Outcome;
+use std::alloc::{AllocError, Global};
+use wb_base::{ReadErr, Sink, Source, Status, read_all};
+
+// Why a command has come to nothing.
+#[derive(Debug, Drop)]
+enum Stop {
+    // The source met a fault.
+    ReadFault,
+    // Memory ran out.
+    Memory,
+}
+
+impl From<AllocError> for Stop {
+    ghost from_gives = { λ _ e. e ≡ Memory };
+
+    fn from(_error: AllocError) -> Stop {
+        Stop::Memory
+    }
+}
+
+// Does a command on an input that isn't too long.
+fn perform_on(alloc: Global, command: Command, input: &[u8]) -> Result<Outcome, Stop>
+    requires { IsBounded command }
+    ensures outcome { IfOk result (λ outcome. out_of_short command input.now ≡ Some (answer_of outcome)) }
+    ensures known { IfOk result (λ outcome. (answer_of outcome).status ≢ Status.Words) }
+    ensures stop { result ≢ Err Stop.ReadFault }
+{
+    match command {
+        Command::Compare { handles, limit } => Ok(compare(alloc, handles, limit, input)?),
+    }
+}
+
+// Reads the input of a command, and does it.
+fn perform<S: Source>(alloc: Global, command: Command, source: &mut S) -> Result<Outcome, Stop>
+    requires { IsBounded command }
+    ensures outcome { IfOk result (λ outcome. IfSome (S.left source.old) (λ input. out_of command input ≡ Some (answer_of outcome))) }
+    ensures known { IfOk result (λ outcome. (answer_of outcome).status ≢ Status.Words) }
+    ensures left { IfOk result (λ _. S.left source.new ≡ option_map (drop (MAX_INPUT + 1)) (S.left source.old)) }
+    ensures fault { result ≡ Err Stop.ReadFault → Rose (S.faults source.old) (S.faults source.new) }
+    ensures later { S.faults source.old ≤ S.faults source.new }
+    ensures calls { S.calls source.new ≤ S.calls source.old + (MAX_INPUT + 2) }
+{
+    match read_all(alloc, source, MAX_INPUT) {
+        Ok(input) => perform_on(alloc, command, &input),
+        Err(ReadErr::TooLarge) => Ok(Outcome::InputTooLong),
+        Err(ReadErr::Fault) => Err(Stop::ReadFault),
+        Err(ReadErr::Memory) => Err(Stop::Memory),
+    }
+}
+
+/// Does all that the program does: `words` are the words of its command line after its name.
+///
+/// It reads the input to its end, or to one byte past its limit, and writes the answer, which is a
+/// function of the words and the input. Nothing is written after a fault of the source or for want of
+/// memory; after a fault of the sink a front of the answer was taken. Words that are no command read
+/// nothing and take no memory.
+pub fn run<S: Source, K: Sink>(
+    alloc: Global,
+    words: &[String],
+    source: &mut S,
+    sink: &mut K,
+) -> Status
+    // What is written, and with which status.
+    ensures answer { IfSome (S.left source.old) (λ input.
+        IsTold (out (map string_bytes words.now) input) result (K.taken sink.old) (K.taken sink.new)) }
+
+    // What a command that is done has written is the answer, and what that says of the input holds.
+    ensures says { result ≡ Status.Done → IfSome (S.left source.old) (λ input. IfSome (command_of (map string_bytes words.now)) (λ command.
+        (a : Answer) × (out (map string_bytes words.now) input ≡ Some a) × (K.taken sink.new ≡ append_known (K.taken sink.old) a.text) × Says command input a.text)) }
+
+    // Words that are no command are told so, with nothing read; no others are.
+    ensures usage { command_of (map string_bytes words.now) ≡ None →
+        (source.new ≡ source.old) × ((result ≡ Status.Words) ⊎ (result ≡ Status.WriteFault)) × Told usage result (K.taken sink.old) (K.taken sink.new) }
+    ensures words { result ≡ Status.Words → command_of (map string_bytes words.now) ≡ None }
+
+    // A fault is answered only where the count of its stream rose.
+    ensures read { result ≡ Status.ReadFault → Rose (S.faults source.old) (S.faults source.new) }
+    ensures write { result ≡ Status.WriteFault → Rose (K.faults sink.old) (K.faults sink.new) }
+    ensures read_later { S.faults source.old ≤ S.faults source.new }
+    ensures write_later { K.faults sink.old ≤ K.faults sink.new }
+
+    // Where the input wasn't read, or memory ran out, the sink is as it was.
+    ensures nothing { (result ≡ Status.ReadFault) ⊎ (result ≡ Status.Memory) → sink.new ≡ sink.old }
+    ensures waits { result ≢ Status.WriteFault → K.waiting sink.old ≡ 0 → K.waiting sink.new ≡ 0 }
+
+    // How far the input was read, and in how many calls.
+    ensures left { (result ≡ Status.Done) ⊎ (result ≡ Status.Refused) ⊎ (result ≡ Status.Input) ⊎ (result ≡ Status.Limit) →
+        S.left source.new ≡ option_map (drop (MAX_INPUT + 1)) (S.left source.old) }
+    ensures calls { S.calls source.new ≤ S.calls source.old + (MAX_INPUT + 2) }
+{
+    let Some(command) = read_command(words) else {
+        return Outcome::Usage.write(sink);
+    };
+    match perform(alloc, command, source) {
+        Ok(outcome) => outcome.write(sink),
+        Err(Stop::ReadFault) => Status::ReadFault,
+        Err(Stop::Memory) => Status::Memory,
+    }
+}
