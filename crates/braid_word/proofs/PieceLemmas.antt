@@ -305,15 +305,26 @@ filter-true : {X : Type 0} (xs : List X) → filter (λ x. true) xs ≡ xs
 filter-true [] = refl
 filter-true (x ∷ xs) = ap (λ ys. x ∷ ys) (filter-true xs)
 
--- in the strict spelling each part of some bytes is to be a letter
+-- in a strict reading each part is to be a letter
+word_by-strict : (line : List ℕ) → word_by true line ≡ not_too_long (letters_of (parts_of line))
+unfolding word_by
+word_by-strict line = ap (λ pieces. not_too_long (letters_of pieces)) (filter-true (parts_of line))
+
+-- each part of some bytes is a letter of their word
+pub strict_word_of-parts
+    : (line : List ℕ)
+    → eqb (length line) 0 ≡ false
+    → strict_word_of line ≡ not_too_long (letters_of (parts_of line))
+unfolding strict_word_of
+strict_word_of-parts [] some = cc
+strict_word_of-parts (b ∷ line) some = refl
+
+-- so some bytes are read strictly
 pub strict_word_of-some
     : (line : List ℕ)
     → eqb (length line) 0 ≡ false
     → strict_word_of line ≡ word_by true line
-unfolding strict_word_of word_by
-strict_word_of-some [] some = cc
-strict_word_of-some (b ∷ line) some =
-    ap (λ pieces. not_too_long (letters_of pieces)) (sym (filter-true (parts_of (b ∷ line))))
+strict_word_of-some line some = strict_word_of-parts line some ∙ sym (word_by-strict line)
 
 -- no bytes are the empty word
 pub strict_word_of-none

@@ -17,7 +17,7 @@ use Rattle.braid_word.specs.Notation.{Piece, placed_from, has_minus, without_min
 use Rattle.braid_word.specs.declared.TheConstants.{MAX_INDEX, MAX_LETTERS}
 use Rattle.braid_word.specs.declared.reader.WordErr.{WordErr}
 use Rattle.braid_word.specs.declared.reader.WordErr.TheVariants.{BadLetter, TooLong}
-use Rattle.braid_word.proofs.PieceLemmas.{split, letter_at}
+use Rattle.braid_word.proofs.PieceLemmas.{split, letter_at, strict_word_of-parts}
 
 -- ---- Answers ----
 
@@ -259,15 +259,6 @@ strict_word_of-is (b ∷ bytes) w read =
       readable = record { short = short; on = spelled.on };
     }
 
--- the same of bytes that aren't none
-strict_word_of-split
-    : (bytes : List ℕ)
-    → 0 < length bytes
-    → strict_word_of bytes ≡ not_too_long (letters_of (placed_from 1 (split bytes)))
-unfolding strict_word_of
-strict_word_of-split [] some = absurd (omega arith)
-strict_word_of-split (b ∷ bytes) some = refl
-
 -- the text of a letter has a byte
 length-letter_text : (x : Letter) → x.index < MAX_INDEX + 1 → 0 < length (letter_text x)
 length-letter_text x high =
@@ -294,7 +285,8 @@ unfolding strict_word_of word_text
 strict_word_of-word_text [] readable = refl
 strict_word_of-word_text (x ∷ w) readable =
     let on = readable.on in
-    strict_word_of-split (word_text (x ∷ w)) (length-word_text x w on)
+    let some : 0 < length (word_text (x ∷ w)) = length-word_text x w on in
+    strict_word_of-parts (word_text (x ∷ w)) (ne_eqb _ 0 (λ none. omega arith))
     ∙ ap (λ parts. not_too_long (letters_of (placed_from 1 parts))) (split-word_text x w on)
     ∙ ap not_too_long (letters_of-letter_text 1 (x ∷ w) on)
     ∙ not_too_long-short (x ∷ w) readable.short
