@@ -2,9 +2,8 @@
 --
 -- The program answers something to any words and any input (`out-total`): a run is over after as many
 -- turns as it may reduce handles, and its sign isn't mixed.
-use Rattle.std.proofs.Common.{◌≡◌, ◌≢◌, ℕ, ◌+◌, ◌<◌, ◌≤◌, true, false, List, [], ◌∷◌, ◌++◌, length, drop, Option, Some, None, IfSome, codes, refl, ap, sym, subst, ◌∙◌, zero-add, inl, inr, arith}
+use Rattle.std.proofs.Common.{◌≡◌, ℕ, ◌+◌, ◌<◌, ◌≤◌, List, [], ◌∷◌, ◌++◌, length, drop, Option, Some, None, IfSome, codes, refl, ap, sym, subst, ◌∙◌, zero-add, inl, inr, arith}
 use Rattle.std.specs.Option.{option_map}
-use Rattle.std.specs.Io.KnownBytes.{prepend_known, append_known, IsAtEnd}
 use Rattle.std.proofs.lemmas.Bool.{lt-ltb, le-ltb, cases_lt}
 use Rattle.std.proofs.lemmas.List.{append-nil, drop_at, drop_all, length-append}
 use Rattle.wb_base.specs.Streams.{ReadsAll, Skips}
@@ -21,12 +20,11 @@ use Rattle.handle_reduce.specs.declared.progress.Progress.TheVariants as progres
 use Rattle.handle_reduce.proofs.RunLemmas.{run_after-ended, turns-ended}
 use Rattle.handle_reduce.proofs.SignOfReduced.{run_after-Mixed}
 use Rattle.wb_top.specs.declared.TheConstants.{MAX_INPUT}
-use Rattle.trace_format.specs.declared.verdict.Verdict.{Verdict}
 use Rattle.wb_top.specs.declared.command.Command.{Command}
 use Rattle.wb_top.specs.declared.command.Command.TheVariants.{Compare}
 use Rattle.trace_format.specs.Verdicts.{verdict_of}
 use Rattle.wb_top.specs.Commands.{command_of}
-use Rattle.wb_top.specs.Answers.{Answer, usage, bad_input, limit_met, ended, compared, word_in, both_words, words_of_lines, two_words, compared_words, out_of_short, out_of, out_of_words, out, Told, IsTold}
+use Rattle.wb_top.specs.Answers.{Answer, limit_met, ended, compared, word_in, both_words, words_of_lines, two_words, compared_words, out_of_short, out_of, out_of_words, out, Told, IsTold}
 
 -- ---- The words of an input ----
 

@@ -10,8 +10,9 @@
 --   out words input           the answer of the program
 --   Told answer s old new     with status s a sink was told that answer
 --
--- Each `Option` here is `Some` wherever the program answers: that is a part of what `run` ensures.
-use Rattle.std.specs.Prelude.{◌≡◌, ℕ, ◌+◌, nat_lt, if◌then◌else◌, List, [], ◌∷◌, ◌++◌, length, codes, decimal, Option, Some, None, Result, Ok, Err, map}
+-- `out` is `Some` for any words and any input (`out-total` in `proofs/AnswerLemmas.antt`), and what `run`
+-- ensures is that answer alone.
+use Rattle.std.specs.Prelude.{◌≡◌, ℕ, nat_lt, if◌then◌else◌, List, [], ◌∷◌, ◌++◌, length, codes, decimal, Option, Some, None, Result, Ok, Err, map}
 use Rattle.std.specs.Option.{option_map}
 use Rattle.std.specs.Io.KnownBytes.{append_known}
 use Rattle.wb_base.specs.Streams.{PutsFront}

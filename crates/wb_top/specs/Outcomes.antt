@@ -1,6 +1,5 @@
 -- The answer that an outcome is written as.
 use Rattle.std.specs.Prelude.{codes, map}
-use Rattle.braid_word.specs.Words.{Letter}
 use Rattle.wb_base.specs.declared.status.Status.TheVariants.{Done}
 use Rattle.wb_top.specs.declared.TheConstants.{MAX_INPUT}
 use Rattle.wb_top.specs.declared.outcome.Outcome.{Outcome}

@@ -1,5 +1,6 @@
 ghost use Rattle.std.specs.Prelude.{◌≡◌, ◌≢◌, ◌≤◌, IfOk, Some};
 ghost use Rattle.braid_word.specs.Notation.{word_of};
+ghost use Rattle.wb_top.specs.declared.TheConstants.{MAX_BOUND};
 ghost use Rattle.wb_top.specs.Answers.{word_in, two_words, compared, compared_words};
 ghost use Rattle.wb_top.specs.Outcomes.{answer_of};
 
@@ -54,8 +55,8 @@ fn reduce(
     handles: u32,
     limit: u32,
 ) -> Result<Outcome, AllocError>
-    requires handles { handles ≤ 100000 }
-    requires limit { limit ≤ 100000 }
+    requires handles { handles ≤ MAX_BOUND }
+    requires limit { limit ≤ MAX_BOUND }
     ensures outcome { IfOk result (λ outcome. compared handles limit left right ≡ Some (answer_of outcome)) }
     ensures known { IfOk result (λ outcome. (answer_of outcome).status ≢ Status.Words) }
 {
@@ -87,8 +88,8 @@ pub(crate) fn compare(
     limit: u32,
     input: &[u8],
 ) -> Result<Outcome, AllocError>
-    requires handles { handles ≤ 100000 }
-    requires limit { limit ≤ 100000 }
+    requires handles { handles ≤ MAX_BOUND }
+    requires limit { limit ≤ MAX_BOUND }
     ensures outcome { IfOk result (λ outcome. compared_words handles limit (two_words input.now) ≡ Some (answer_of outcome)) }
     ensures known { IfOk result (λ outcome. (answer_of outcome).status ≢ Status.Words) }
 {

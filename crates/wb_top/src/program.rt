@@ -1,7 +1,7 @@
 ghost use Rattle.std.specs.Prelude.{◌≡◌, ◌≢◌, ◌+◌, ◌≤◌, ℕ, List, ◌⊎◌, IfOk, IfSome, Some, None, drop, map, string_bytes};
 ghost use Rattle.std.specs.Option.{option_map};
 ghost use Rattle.std.specs.Io.KnownBytes.{append_known};
-ghost use Rattle.wb_base.specs.Streams.{Rose};
+ghost use Rattle.wb_base.specs.Streams.{Rose, Skips};
 ghost use Rattle.wb_top.specs.Commands.{command_of, IsBounded};
 ghost use Rattle.wb_top.specs.Answers.{Answer, Told, IsTold, usage, out, out_of, out_of_short};
 ghost use Rattle.wb_top.specs.Outcomes.{answer_of};
@@ -50,6 +50,7 @@ fn perform<S: Source>(alloc: Global, command: Command, source: &mut S) -> Result
     ensures outcome { IfOk result (λ outcome. IfSome (S.left source.old) (λ input. out_of command input ≡ Some (answer_of outcome))) }
     ensures known { IfOk result (λ outcome. (answer_of outcome).status ≢ Status.Words) }
     ensures left { IfOk result (λ _. S.left source.new ≡ option_map (drop (MAX_INPUT + 1)) (S.left source.old)) }
+    ensures front { (n : ℕ) × (n ≤ MAX_INPUT + 1) × Skips (S.left source.old) (S.left source.new) n }
     ensures fault { result ≡ Err Stop.ReadFault → Rose (S.faults source.old) (S.faults source.new) }
     ensures later { S.faults source.old ≤ S.faults source.new }
     ensures calls { S.calls source.new ≤ S.calls source.old + (MAX_INPUT + 2) }
@@ -93,13 +94,18 @@ pub fn run<S: Source, K: Sink>(
     ensures read_later { S.faults source.old ≤ S.faults source.new }
     ensures write_later { K.faults sink.old ≤ K.faults sink.new }
 
-    // Where the input wasn't read, or memory ran out, the sink is as it was.
+    // Where the input wasn't read, or memory ran out, the sink is as it was. After any other status but a
+    // fault of the sink no byte waits.
     ensures nothing { (result ≡ Status.ReadFault) ⊎ (result ≡ Status.Memory) → sink.new ≡ sink.old }
+    ensures passed { result ≢ Status.ReadFault → result ≢ Status.WriteFault → result ≢ Status.Memory → K.waiting sink.new ≡ 0 }
     ensures waits { result ≢ Status.WriteFault → K.waiting sink.old ≡ 0 → K.waiting sink.new ≡ 0 }
 
-    // How far the input was read, and in how many calls.
+    // With an answer to a command the input was read to its end, or to one byte past its limit.
     ensures left { (result ≡ Status.Done) ⊎ (result ≡ Status.Refused) ⊎ (result ≡ Status.Input) ⊎ (result ≡ Status.Limit) →
         S.left source.new ≡ option_map (drop (MAX_INPUT + 1)) (S.left source.old) }
+
+    // In every case a front of it was taken, no further than that byte, in at most so many calls.
+    ensures front { (n : ℕ) × (n ≤ MAX_INPUT + 1) × Skips (S.left source.old) (S.left source.new) n }
     ensures calls { S.calls source.new ≤ S.calls source.old + (MAX_INPUT + 2) }
 {
     let Some(command) = read_command(words) else {

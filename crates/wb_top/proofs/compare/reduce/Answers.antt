@@ -1,5 +1,4 @@
-use Rattle.std.proofs.Common.{Option, Some, sym, ap, ◌∙◌, refl}
-use Rattle.std.specs.Option.{option_map}
+use Rattle.std.proofs.Common.{sym, ◌∙◌, refl}
 use Rattle.wb_top.proofs.AnswerLemmas.{run-all, compared-run, run-over, run-decided, compared-long}
 use Rattle.wb_top.proofs.compare.reduce.Goals as goal
 
