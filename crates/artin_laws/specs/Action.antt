@@ -1,15 +1,15 @@
--- Artin's action: braid words move the words of a free group.
+-- Artin's action: braid words act on a free group by automorphisms, from the left.
 --
 -- The generator s_i of the braid groups sends x_i to x_i x_(i+1) x_i^-1 and x_(i+1) to x_i, and
--- leaves the other generators of the free group; s_i^-1 undoes that. A braid word acts with its
--- last letter first, so u ++ v acts as v and then u.
+-- leaves the other generators of the free group; s_i^-1 sends x_i to x_(i+1) and x_(i+1) to
+-- x_(i+1)^-1 x_i x_(i+1). A braid word acts with its last letter first, so u ++ v acts as v and then u.
 -- Source: E. Artin, Theory of braids, 1947; the side is this project's. What images end in is after
 -- D. M. Larue, On braid words and irreflexivity, 1994.
 --
 --   image x y              the image of the generator y, or of an inverse, under the letter x
 --   act_letter x f         the image of the free word f under the letter x
 --   act w f                the image of f under the word w
---   ActAlike u v           u and v send every free word to the same one
+--   ActAlike u v           u and v send every reduced word to the same one
 --   EndsIn g f             the last generator of f is g
 --   ImagesFit limit w f    every image of f after a suffix of w is at most `limit` long
 --
@@ -45,7 +45,7 @@ image x y = if y.negative then inverse (image_of x y.index) else image_of x y.in
 
 -- ---- The action ----
 
--- The image of a word under a letter: the product of the images of its generators.
+-- The image of a word under a letter: the reduced product of the images of its generators and inverses.
 abbrev pub act_letter : Letter → List Gen → List Gen
 act_letter x [] = []
 act_letter x (y ∷ f) = product (image x y) (act_letter x f)
@@ -55,7 +55,7 @@ abbrev pub act : List Letter → List Gen → List Gen
 act [] f = f
 act (x ∷ w) f = act_letter x (act w f)
 
--- The words have the same action.
+-- The words have the same action on reduced words.
 abbrev pub ActAlike : List Letter → List Letter → Type 0
 ActAlike u v = (f : List Gen) → IsReduced f → act u f ≡ act v f
 

@@ -72,8 +72,9 @@ fn act_letter(alloc: Global, x: Letter, word: &[Gen]) -> Result<FreeWord, AllocE
 
 /// The image of a free word under a braid word, whose last letter acts first.
 ///
-/// `TooLong` where the image after some suffix of the word has more than `limit` generators.
-/// After Artin's representation; the side on which words act is this project's choice.
+/// `TooLong` exactly where the image after some suffix of the word, the empty and the whole one too, has
+/// more than `limit` generators, inverses counted as well. After Artin, Theory of braids; the side on
+/// which words act is this project's choice.
 pub fn act(alloc: Global, word: &[Letter], start: &FreeWord, limit: u32) -> Result<FreeWord, ActErr>
     requires short { length start.now ≤ limit }
     ensures image { IfOk result (λ f. f ≡ act word.now start.now) }

@@ -1,9 +1,9 @@
 -- Free words: elements of a free group as lists of generators, with their product and inverse.
 --
--- A free group has a generator x_i for each index i; indices count from 1, as those of braid words
--- do. A word is a list of generators and of inverses of generators, the first one first. It is
--- reduced where no two neighbours are inverse to each other, and each element of the group has one
--- reduced word.
+-- A free group has a generator x_i for each index i. The indices of the code's generators count from 1,
+-- as those of braid words do; the definitions hold for any. A word is a list of generators and of
+-- inverses of generators, the first one first. It is reduced where no two neighbours are inverse to each
+-- other, and each element of the group has one reduced word.
 -- Source: M. Hall, The Theory of Groups, 1959. That generators act on reduced words by `put` is
 -- after B. L. van der Waerden, Free products of groups, 1948.
 --

@@ -8,7 +8,7 @@ use std::marker::Model;
 /// Its text is the index, with a minus sign before that of an inverse.
 #[derive(Clone, Copy, Debug, PartialEq, Eq)]
 pub struct Gen {
-    /// The generator's index, counted from 1.
+    /// The generator's index, from 1 to 65,535.
     pub index: u16,
     /// Whether this is the generator's inverse.
     pub negative: bool,

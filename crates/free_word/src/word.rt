@@ -49,7 +49,7 @@ fn put_last(letters: &mut Vec<Gen>, x: Gen) -> Result<(), AllocError>
 }
 
 impl FreeWord {
-    /// The element of the empty word, with room for as many generators.
+    /// The element of the empty word, which may be given room for this many generators.
     pub fn with_capacity(alloc: Global, room: usize) -> Result<FreeWord, AllocError>
         ensures { IfOk result (λ f. f ≡ []) }
     {
@@ -77,7 +77,7 @@ impl FreeWord {
         })
     }
 
-    /// Multiplies by a generator, or by its inverse, from the right.
+    /// Multiplies by a generator, or by its inverse, from the right. A refused call changes nothing.
     pub fn push(&mut self, x: Gen) -> Result<(), AllocError>
         ensures ok { OnOk result (self.new ≡ product self.old (x ∷ [])) }
         ensures err { OnErr result (self.new ≡ self.old) }

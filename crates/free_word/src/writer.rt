@@ -48,6 +48,8 @@ fn put_rest<K: Sink>(sink: &mut K, letters: &[Gen]) -> Result<(), Failed>
 }
 
 /// Gives a free word as signed indices with one space between them, and no LF.
+///
+/// After `Failed` the sink has taken a front of the text. It takes no memory.
 pub fn put_free<K: Sink>(sink: &mut K, word: &FreeWord) -> Result<(), Failed>
     ensures took { Puts (K.taken sink.old) (K.taken sink.new) result (free_text word.now) }
     ensures cause { HasCause (K.faults sink.old) (K.faults sink.new) result }

@@ -5,10 +5,11 @@ ghost use Rattle.handle_find.specs.Handles.{IsHandle, IsLeftmost, HasNoHandle, l
 
 use braid_word::Letter;
 
-/// Whether the letters from place `p` to place `q` are a handle.
+/// Whether the letters from place `p` to place `q`, counted from 0, are a handle: the two have one index
+/// and opposite signs, and those between have higher indices.
 ///
-/// After Dehornoy's handle reduction: the two letters have one index and opposite signs, and those
-/// between have higher indices.
+/// It is false where `p` isn't below `q`, or `q` is past the end. After Dehornoy, A fast method for
+/// comparing braids.
 pub fn is_handle(word: &[Letter], p: usize, q: usize) -> bool
     ensures { IsTrue result ↔ IsHandle word.now p q }
 {
@@ -54,10 +55,10 @@ fn start_of_handle(word: &[Letter], end: usize) -> Option<usize>
     None
 }
 
-/// The two places of the leftmost handle: the one that ends first.
+/// The two places, counted from 0, of the leftmost handle: the one that ends first.
 ///
-/// `None` exactly where there is no handle. The handle is Dehornoy's; that the one which ends first is
-/// taken is this project's choice.
+/// `None` exactly where there is no handle. After Dehornoy, A fast method for comparing braids; the exact
+/// form of a handle and taking the one that ends first are this project's.
 pub fn leftmost(word: &[Letter]) -> Option<(usize, usize)>
     ensures places { result ≡ leftmost_of word.now }
     ensures leftmost { MatchOption result (HasNoHandle word.now) (λ r. IsLeftmost word.now r.0 r.1) }

@@ -33,7 +33,7 @@ fn count_of_index(letters: &[Letter], index: u16) -> usize
 ///
 /// Of a handle of index j that begins with the sign e, the first and the last letter go, and each inside
 /// letter of index j + 1 and sign d becomes three: index j + 1 with the sign against e, index j with d,
-/// and index j + 1 with e. Any other letter stays. After Dehornoy's handle reduction.
+/// and index j + 1 with e. Any other letter stays. After Dehornoy, A fast method for comparing braids.
 pub fn reduct(alloc: Global, word: &[Letter], p: usize, q: usize) -> Result<Word, AllocError>
     requires { IsHandle word.now p q }
     ensures letters { IfOk result (λ w. w ≡ reduct word.now p q) }

@@ -110,7 +110,7 @@ impl Reducer {
         ensures run { (w : List Signed) → (handles limit t : ℕ) → IsRunAfter w handles limit t self.old
             → IsRunAfter w handles limit (t + at_most) self.new }
 
-        // The present word stands for the same braid as the first one, on as few strands.
+        // The present word represents the same braid as the first one, on as few strands.
         ensures equivalent { (w : List Signed) → (handles limit t n : ℕ) → IsRunAfter w handles limit t self.old
             → IsOn n w → EquivalentOn n w self.new.run.present }
         ensures ended { self.old.run.progress ≢ Progress.Running → self.new ≡ self.old }

@@ -6,7 +6,7 @@
 --
 --   keyword_of line      the keyword
 --   kind_of line         the kind of line that it names, if it is a keyword
---   line_of line         what the line says, or why it is none
+--   line_of line         what the line says, or why it says nothing
 --   line_text l          the text of what a line says
 --   IsLine l             l can be said by a line
 --   Gives result read    what a reader answered is what is read, unless memory ran out
@@ -36,7 +36,7 @@ use Rattle.trace_format.specs.TraceText.{word_field, step_text, verdict_word}
 abbrev pub keyword_of : List ℕ → List ℕ
 keyword_of line = before_first (λ byte. byte == 32) line
 
--- What stands behind the keyword: nothing, or a space and more.
+-- What stands behind the keyword: nothing, or a space and what follows it.
 abbrev pub behind_keyword : List ℕ → List ℕ
 behind_keyword line = drop (length (keyword_of line)) line
 
@@ -51,6 +51,7 @@ kind_by word =
     else (if bytes_eq word (codes "witness") then Some kinds.Witness
     else (if bytes_eq word (codes "end") then Some kinds.Finish else None))))))
 
+-- The kind of a line, by its keyword.
 abbrev pub kind_of : List ℕ → Option Kind
 kind_of line = kind_by (keyword_of line)
 
@@ -126,6 +127,7 @@ Fails Unknown read = read ≡ Err Unknown
 Fails Form read = read ≡ Err Form
 Fails Long read = read ≡ Err Long
 
+-- What a reader answered is what is read, unless memory ran out.
 abbrev pub Gives : {X : Type 0} → Result X LineErr → Result X LineErr → Type 0
 Gives (Ok x) read = read ≡ Ok x
 Gives (Err e) read = Fails e read
@@ -146,6 +148,7 @@ line_text lines.Finish = codes "end"
 abbrev pub IsPlace : ℕ → Type 0
 IsPlace p = (0 < p) × (p < 4294967296)
 
+-- Both places are.
 abbrev pub IsStepLine : StepLine → Type 0
 IsStepLine (Handle p q) = IsPlace p × IsPlace q
 

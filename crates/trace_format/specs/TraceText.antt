@@ -1,7 +1,7 @@
 -- The text of a trace file, version 1.
 --
--- A trace says of two words what the order of their braids is, by which steps that was found, and shows
--- a word by which it can be seen. Each line ends with LF (byte 10); fields are parted by one space.
+-- A trace claims how the braids of two words compare, by which steps that was found, and gives a word by
+-- which it can be seen. Each line ends with LF (byte 10); fields are parted by one space.
 -- Source: this project's own.
 --
 --   Trace           what a trace file says
@@ -16,7 +16,7 @@ use Rattle.trace_format.specs.declared.line.StepLine.TheVariants.{Handle}
 use Rattle.trace_format.specs.declared.verdict.Verdict.{Verdict}
 use Rattle.trace_format.specs.declared.verdict.Verdict.TheVariants.{Less, Equal, Greater}
 
--- Two words, the steps from their quotient on, the verdict, and the word that was reached.
+-- Two words, the steps from their quotient on, the verdict, and the word that it gives as witness.
 pub record Trace : Type 0 where
   pub left : List Letter
   pub right : List Letter
@@ -33,6 +33,7 @@ word_field (x ∷ w) = 32 ∷ word_text (x ∷ w)
 abbrev pub step_text : StepLine → List ℕ
 step_text (Handle p q) = codes "h " ++ (decimal p ++ (32 ∷ decimal q))
 
+-- The same as a line.
 abbrev pub step_line : StepLine → List ℕ
 step_line step = line (step_text step)
 
@@ -40,16 +41,18 @@ step_line step = line (step_text step)
 abbrev pub handle_step : ℕ × ℕ → StepLine
 handle_step (p, q) = Handle p q
 
+-- A verdict, as it is written.
 abbrev pub verdict_word : Verdict → List ℕ
 verdict_word Less = codes "less"
 verdict_word Equal = codes "equal"
 verdict_word Greater = codes "greater"
 
--- The lines before the steps, and those behind them.
+-- The lines before the steps.
 abbrev pub head_text : List Letter → List Letter → List ℕ
 head_text left right =
     line (codes "braid-trace 1") ++ line (codes "left" ++ word_field left) ++ line (codes "right" ++ word_field right)
 
+-- The lines behind the steps.
 abbrev pub tail_text : Verdict → List Letter → List ℕ
 tail_text verdict witness =
     line (codes "verdict " ++ verdict_word verdict) ++ line (codes "witness" ++ word_field witness) ++ line (codes "end")

@@ -1,11 +1,11 @@
 -- Which verdict a sign gives, and what a verdict means.
 --
 -- Source: P. Dehornoy, Braid groups and left distributive operations, 1994: u is less than v where a
--- sigma-positive word stands for u^-1 v.
+-- sigma-positive word represents u^-1 v.
 --
 --   verdict_of sign   the verdict that a sign gives
---   Holds d u v       the verdict d on u and v is that of the order on braids
---   Shows d w         the verdict d can be seen from w, where w stands for u^-1 v
+--   Holds d u v       the verdict d holds of u and v in the order on braids
+--   Shows d w         the verdict d can be seen from w, where w represents u^-1 v
 use Rattle.std.specs.Prelude.{◌≡◌, List, [], Option, Some, None}
 use Rattle.braid_word.specs.Words.{Letter}
 use Rattle.braid_word.specs.Order as order
@@ -14,7 +14,7 @@ use Rattle.braid_word.specs.declared.sign.Sign.TheVariants.{Empty, Positive, Neg
 use Rattle.trace_format.specs.declared.verdict.Verdict.{Verdict}
 use Rattle.trace_format.specs.declared.verdict.Verdict.TheVariants.{Less, Equal, Greater}
 
--- The verdict by the sign of a word that stands for u^-1 v. A mixed sign gives none.
+-- The verdict by the sign of a word that represents u^-1 v. A mixed sign gives none.
 abbrev pub verdict_of : Sign → Option Verdict
 verdict_of (Positive i) = Some Less
 verdict_of Empty = Some Equal

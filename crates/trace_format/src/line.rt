@@ -19,24 +19,38 @@ pub enum StepLine {
 /// What a line is, by its keyword.
 #[derive(Clone, Copy, Debug, PartialEq, Eq)]
 pub enum Kind {
+    /// `braid-trace`, the first line.
     Start,
+    /// `left`, with the left word.
     Left,
+    /// `right`, with the right word.
     Right,
+    /// `h`, with a step.
     Step,
+    /// `verdict`, with the verdict.
     Verdict,
+    /// `witness`, with the witness.
     Witness,
+    /// `end`, the last line.
     Finish,
 }
 
 /// What a line says.
 #[derive(Debug, Drop)]
 pub enum Line {
+    /// A trace file of version 1 begins.
     Start,
+    /// The left word.
     Left(Word),
+    /// The right word.
     Right(Word),
+    /// A step.
     Step(StepLine),
+    /// The verdict.
     Verdict(Verdict),
+    /// The witness.
     Witness(Word),
+    /// The file ends.
     Finish,
 }
 
@@ -49,7 +63,7 @@ pub enum LineErr {
     /// What follows the keyword hasn't the form of such a line.
     #[error("not of the form")]
     Form,
-    /// A word has too many letters.
+    /// A word has more than 100,000 letters, and each of them can be read.
     #[error("too long")]
     Long,
     /// Memory ran out.
@@ -65,7 +79,7 @@ fn first_space(line: &[u8]) -> Option<usize>
 }
 
 // A line's keyword, which ends at its first space, and what stands behind it: nothing, or a space and
-// more.
+// what follows it.
 fn split_keyword(line: &[u8]) -> (&[u8], &[u8])
     ensures keyword { result.0.now ≡ keyword_of line.now }
     ensures behind { result.1.now ≡ behind_keyword line.now }
@@ -96,9 +110,10 @@ fn kind_by(keyword: &[u8]) -> Option<Kind>
     }
 }
 
-/// What a line is, by its first word, which ends at its first space.
+/// What a line is, by its keyword, which ends at its first space (byte 32) or with the line.
 ///
-/// `None` where that is no keyword.
+/// `None` where that is none of `braid-trace`, `left`, `right`, `h`, `verdict`, `witness` and `end`, in
+/// these letters.
 pub fn kind_of(line: &[u8]) -> Option<Kind>
     ensures { result ≡ kind_of line.now }
 {
@@ -165,7 +180,11 @@ fn read_verdict(behind: &[u8]) -> Result<Verdict, LineErr>
     }
 }
 
-/// Reads a line, which is given without its LF.
+/// Reads a line of a trace file of version 1, which is given without its LF.
+///
+/// `Unknown` where it has no keyword, `Long` where its word has more than 100,000 letters that can all be
+/// read, and `Form` for any other fault, as a letter with an index above 255. The format is this
+/// project's.
 #[tactic(auto, unfolding(crate::specs::TraceLines::line_of))]
 pub fn read_line(alloc: Global, line: &[u8]) -> Result<Line, LineErr>
     ensures { Gives result (line_of line.now) }

@@ -100,7 +100,11 @@ fn put_tail<K: Sink, A: Account>(sink: &mut K, account: &A, verdict: Verdict) ->
     put_line(sink, b"end")
 }
 
-/// Gives the trace file of two words: its steps and its witness are those of the account.
+/// Gives the trace file of two words, of version 1: its steps, with places counted from 1, and its
+/// witness are those of the account.
+///
+/// Nothing is tested: neither the account against the words, nor the verdict against the account. After
+/// `Failed` the sink has taken a front of the file. It takes no memory. The format is this project's.
 pub fn put_trace<K: Sink, A: Account>(
     sink: &mut K,
     left: &[Letter],

@@ -14,9 +14,10 @@ pub enum Verdict {
     Greater,
 }
 
-/// The verdict on two words whose quotient stands for the same braid as a word of this sign.
+/// The verdict on two words u and v where a word of this sign represents the braid of u^-1 v.
 ///
-/// `None` where the sign is mixed, which goes with no verdict.
+/// `None` where the sign is mixed, which goes with no verdict. After Dehornoy, Braid groups and left
+/// distributive operations.
 pub fn verdict_of(sign: Sign) -> Option<Verdict>
     ensures { result ≡ verdict_of sign }
 {

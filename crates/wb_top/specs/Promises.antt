@@ -1,6 +1,6 @@
 -- What the text of a command that is done says of its input.
 --
---   HasVerdict input text     it is a trace of the two words of the input, and what it says holds
+--   HasVerdict input text     it is a trace of the two words of the input, whose verdict and witness hold
 --   Says command input text   what the text of a command says
 use Rattle.std.specs.Prelude.{◌≡◌, ◌↔◌, ℕ, List, Some}
 use Rattle.braid_word.specs.Words.{quotient, IsOn}
@@ -14,8 +14,8 @@ use Rattle.trace_format.specs.TraceText.{Trace, trace_text}
 use Rattle.wb_top.specs.Answers.{two_words}
 
 -- The text is a trace of the two words u and v of the input. Its verdict holds of them in the order
--- on braids, and no other does; its witness is a word that stands for u^-1 v and shows the verdict. It
--- is equal exactly where the words are equivalent, on any number of strands that both are on.
+-- on braids, and no other does; its witness is a word that represents u^-1 v and shows the verdict.
+-- It is equal exactly where the words are equivalent, on any number of strands that both are on.
 pub record HasVerdict (input text : List ℕ) : Type 0 where
   pub trace : Trace
   pub words : two_words input ≡ Some (trace.left, trace.right)

@@ -68,7 +68,7 @@ fn perform<S: Source>(alloc: Global, command: Command, source: &mut S) -> Result
 /// It reads the input to its end, or to one byte past its limit, and writes the answer, which is a
 /// function of the words and the input. Nothing is written after a fault of the source or for want of
 /// memory; after a fault of the sink a front of the answer was taken. Words that are no command read
-/// nothing and take no memory.
+/// nothing, and never end for want of memory.
 pub fn run<S: Source, K: Sink>(
     alloc: Global,
     words: &[String],
