@@ -12,8 +12,9 @@ use Rattle.std.proofs.lemmas.List.Elements.{All-nil, All-cons, All-append, All-w
 use Rattle.std.proofs.lemmas.List.Splits.{slice_split_none, slice_split_at, join_with_byte-slice_split}
 use Rattle.std.proofs.lemmas.Str.Parse.{digit_at}
 use Rattle.wb_base.proofs.NumberLemmas.{decimal-canonical, is_canonical-decimal, AllDigits-decimal, digits_value-of_decimal, AllDigits-list_all, list_all-AllDigits}
+use Rattle.wb_base.specs.Numbers.{sign_text}
 use Rattle.braid_word.specs.Words.{Letter, letter, IsOn}
-use Rattle.braid_word.specs.Notation.{Piece, placed_from, has_minus, without_minus, is_numeral, with_index, letter_of, letters_of, in_front, not_too_long, strict_word_of, IsReadable, sign_text, letter_text, word_text}
+use Rattle.braid_word.specs.Notation.{Piece, placed_from, has_minus, without_minus, is_numeral, with_index, letter_of, letters_of, in_front, not_too_long, strict_word_of, IsReadable, letter_text, word_text}
 use Rattle.braid_word.specs.declared.TheConstants.{MAX_INDEX, MAX_LETTERS}
 use Rattle.braid_word.specs.declared.reader.WordErr.{WordErr}
 use Rattle.braid_word.specs.declared.reader.WordErr.TheVariants.{BadLetter, TooLong}

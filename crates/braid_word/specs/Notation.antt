@@ -14,11 +14,11 @@
 --   IsReadable w        w can be read
 --   word_text w         the strict spelling of w
 --   Gives result read   what a reader answered is what is read, unless memory ran out
-use Rattle.std.specs.Prelude.{◌≡◌, ℕ, ◌+◌, ◌≤◌, ◌&&◌, ◌||◌, ◌==◌, nat_lt, Bool, false, not, if◌then◌else◌, List, [], ◌∷◌, ◌++◌, length, drop, map, filter, decimal, Result, Ok, Err}
+use Rattle.std.specs.Prelude.{◌≡◌, ℕ, ◌+◌, ◌≤◌, ◌&&◌, ◌||◌, ◌==◌, nat_lt, Bool, false, not, if◌then◌else◌, List, [], ◌∷◌, length, drop, map, filter, Result, Ok, Err}
 use Rattle.std.specs.List.{slice_split, list_all, join_with_byte}
 use Rattle.std.specs.Char.{is_ascii_digit}
 use Rattle.std.specs.Str.Parse.{digits_value}
-use Rattle.wb_base.specs.Numbers.{is_canonical}
+use Rattle.wb_base.specs.Numbers.{is_canonical, signed_text}
 use Rattle.braid_word.specs.Words.{Letter, letter, IsOn}
 use Rattle.braid_word.specs.declared.TheConstants.{MAX_INDEX, MAX_LETTERS}
 use Rattle.braid_word.specs.declared.reader.WordErr.{WordErr}
@@ -127,13 +127,9 @@ Gives (Err e) read = Fails e read
 
 -- ---- Spelling ----
 
--- A minus sign, for an inverse.
-abbrev pub sign_text : Bool → List ℕ
-sign_text negative = if negative then 45 ∷ [] else []
-
 -- The text of a letter: its index, behind a minus sign for an inverse.
 abbrev pub letter_text : Letter → List ℕ
-letter_text x = sign_text x.negative ++ decimal x.index
+letter_text x = signed_text x.negative x.index
 
 -- A letter behind a space.
 abbrev pub next_text : Letter → List ℕ

@@ -1,33 +1,21 @@
 ghost use Rattle.std.specs.Prelude.{◌≡◌, ◌∷◌, ◌++◌};
 ghost use Rattle.std.specs.List.{flat_map};
 ghost use Rattle.wb_base.specs.Streams.{HasCause, Puts};
-ghost use Rattle.braid_word.specs.Notation.{sign_text, letter_text, next_text, word_text};
+ghost use Rattle.braid_word.specs.Notation.{letter_text, next_text, word_text};
 
 use crate::letter::Letter;
-use wb_base::{Failed, Sink, give_all, put_number};
-
-// Gives the minus sign of a negative letter.
-fn put_sign<K: Sink>(sink: &mut K, negative: bool) -> Result<(), Failed>
-    ensures took { Puts (K.taken sink.old) (K.taken sink.new) result (sign_text negative) }
-    ensures cause { HasCause (K.faults sink.old) (K.faults sink.new) result }
-{
-    if negative {
-        return give_all(sink, b"-");
-    }
-    Ok(())
-}
+use wb_base::{Failed, Sink, give_all, put_signed};
 
 /// Gives the text of a letter: its index, behind a minus sign for an inverse.
 pub fn put_letter<K: Sink>(sink: &mut K, letter: Letter) -> Result<(), Failed>
     ensures took { Puts (K.taken sink.old) (K.taken sink.new) result (letter_text letter) }
     ensures cause { HasCause (K.faults sink.old) (K.faults sink.new) result }
 {
-    put_sign(sink, letter.negative)?;
-    put_number(sink, u64::from(letter.index))
+    put_signed(sink, letter.negative, u64::from(letter.index))
 }
 
-// Gives the text of a letter behind a space.
-fn put_next<K: Sink>(sink: &mut K, letter: Letter) -> Result<(), Failed>
+/// Gives the text of a letter behind a space.
+pub fn put_next_letter<K: Sink>(sink: &mut K, letter: Letter) -> Result<(), Failed>
     ensures took { Puts (K.taken sink.old) (K.taken sink.new) result (next_text letter) }
     ensures cause { HasCause (K.faults sink.old) (K.faults sink.new) result }
 {
@@ -41,7 +29,7 @@ fn put_rest<K: Sink>(sink: &mut K, letters: &[Letter]) -> Result<(), Failed>
     ensures cause { HasCause (K.faults sink.old) (K.faults sink.new) result }
 {
     for letter in letters {
-        put_next(sink, *letter)?;
+        put_next_letter(sink, *letter)?;
     }
     Ok(())
 }

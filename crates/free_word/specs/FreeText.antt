@@ -5,17 +5,14 @@
 --   gen_text x     the index of x, behind a minus sign for an inverse
 --   next_text x    the same behind a space
 --   free_text f    the texts of the generators of f, with one space between them
-use Rattle.std.specs.Prelude.{ℕ, Bool, if◌then◌else◌, List, [], ◌∷◌, ◌++◌, map, decimal}
+use Rattle.std.specs.Prelude.{ℕ, List, ◌∷◌, map}
 use Rattle.std.specs.List.{join_with_byte}
+use Rattle.wb_base.specs.Numbers.{signed_text}
 use Rattle.free_word.specs.FreeWords.{Gen}
-
--- A minus sign, for an inverse.
-abbrev pub sign_text : Bool → List ℕ
-sign_text negative = if negative then 45 ∷ [] else []
 
 -- The text of a generator: `2` or `-2`.
 abbrev pub gen_text : Gen → List ℕ
-gen_text x = sign_text x.negative ++ decimal x.index
+gen_text x = signed_text x.negative x.index
 
 -- A generator behind a space.
 abbrev pub next_text : Gen → List ℕ

@@ -1,30 +1,18 @@
 ghost use Rattle.std.specs.Prelude.{◌≡◌, ◌∷◌, ◌++◌};
 ghost use Rattle.std.specs.List.{flat_map};
 ghost use Rattle.wb_base.specs.Streams.{HasCause, Puts};
-ghost use Rattle.free_word.specs.FreeText.{sign_text, gen_text, next_text, free_text};
+ghost use Rattle.free_word.specs.FreeText.{gen_text, next_text, free_text};
 
 use crate::generator::Gen;
 use crate::word::FreeWord;
-use wb_base::{Failed, Sink, give_all, put_number};
-
-// Gives the minus sign of an inverse.
-fn put_sign<K: Sink>(sink: &mut K, negative: bool) -> Result<(), Failed>
-    ensures took { Puts (K.taken sink.old) (K.taken sink.new) result (sign_text negative) }
-    ensures cause { HasCause (K.faults sink.old) (K.faults sink.new) result }
-{
-    if negative {
-        return give_all(sink, b"-");
-    }
-    Ok(())
-}
+use wb_base::{Failed, Sink, give_all, put_signed};
 
 // Gives a generator's index, behind a minus sign for an inverse.
 fn put_gen<K: Sink>(sink: &mut K, x: Gen) -> Result<(), Failed>
     ensures took { Puts (K.taken sink.old) (K.taken sink.new) result (gen_text x) }
     ensures cause { HasCause (K.faults sink.old) (K.faults sink.new) result }
 {
-    put_sign(sink, x.negative)?;
-    put_number(sink, u64::from(x.index))
+    put_signed(sink, x.negative, u64::from(x.index))
 }
 
 // Gives a generator behind a space.

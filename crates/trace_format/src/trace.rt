@@ -1,13 +1,12 @@
 ghost use Rattle.std.specs.Prelude.{◌≡◌, ◌++◌, ◌∷◌, [], decimal, codes, map};
 ghost use Rattle.std.specs.List.{flat_map};
 ghost use Rattle.wb_base.specs.Streams.{HasCause, Puts};
-ghost use Rattle.braid_word.specs.Notation.{next_text};
 ghost use Rattle.wb_base.specs.Lines.{line};
 ghost use Rattle.trace_format.specs.TraceText.{word_field, step_line, handle_step, verdict_word, head_text, tail_text, trace_text};
 
 use crate::text::put_word_line;
 use crate::verdict::Verdict;
-use braid_word::{Account, Letter, put_letter};
+use braid_word::{Account, Letter, put_next_letter};
 use wb_base::{Failed, Sink, give_all, put_line, put_numbered, put_numbered_line};
 
 // Gives the line of a step on the handle at two places, counted from 1.
@@ -29,15 +28,6 @@ fn put_steps<K: Sink, A: Account>(sink: &mut K, account: &A) -> Result<(), Faile
         put_step(sink, account.step_at(k))?;
     }
     Ok(())
-}
-
-// Gives a letter behind a space.
-fn put_next_letter<K: Sink>(sink: &mut K, letter: Letter) -> Result<(), Failed>
-    ensures took { Puts (K.taken sink.old) (K.taken sink.new) result (next_text letter) }
-    ensures cause { HasCause (K.faults sink.old) (K.faults sink.new) result }
-{
-    give_all(sink, b" ")?;
-    put_letter(sink, letter)
 }
 
 // Gives the letters of the word that an account has reached, each behind a space.

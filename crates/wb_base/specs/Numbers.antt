@@ -5,7 +5,8 @@
 --   digits_in_front bytes    the longest run of digits that the bytes begin with
 --   is_canonical run         whether a run of digits is the text of a number
 --   number_at bytes          the number that the bytes begin with, and the length of its text
-use Rattle.std.specs.Prelude.{ℕ, ◌^◌, ◌&&◌, ◌==◌, Bool, true, false, not, nat_lt, if◌then◌else◌, List, [], ◌∷◌, length, take_while, Option, Some, None}
+--   signed_text negative n   the text of n, behind a minus sign where it is negative
+use Rattle.std.specs.Prelude.{ℕ, ◌^◌, ◌&&◌, ◌==◌, Bool, true, false, not, nat_lt, if◌then◌else◌, List, [], ◌∷◌, ◌++◌, length, decimal, take_while, Option, Some, None}
 use Rattle.std.specs.Char.{is_ascii_digit}
 use Rattle.std.specs.Str.Parse.{digits_value}
 
@@ -26,3 +27,11 @@ number_of run = if is_canonical run && nat_lt (digits_value 10 run) (2 ^ 64) the
 -- The number in front and how many digits it has: of `102 7` they are 102 and 3, and `01` has none.
 abbrev pub number_at : List ℕ → Option (ℕ × ℕ)
 number_at bytes = number_of (digits_in_front bytes)
+
+-- A minus sign, for a negative number.
+abbrev pub sign_text : Bool → List ℕ
+sign_text negative = if negative then 45 ∷ [] else []
+
+-- A number behind its sign: `2` or `-2`.
+abbrev pub signed_text : Bool → ℕ → List ℕ
+signed_text negative n = sign_text negative ++ decimal n

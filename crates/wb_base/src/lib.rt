@@ -12,12 +12,15 @@ mod whole;
 
 pub use line_iter::{LineIter, lines};
 pub use memory::{MemSink, MemSource, SureSource};
-pub use number::{is_canonical, put_number, read_number};
+pub use number::{is_canonical, put_number, put_signed, read_number};
 pub use standard::{StdSink, StdSource};
 pub use status::Status;
 pub use stream::{Failed, Sink, Source, give_all};
 pub use text::{put_line, put_numbered, put_numbered_line};
 pub use whole::{ReadErr, read_all};
+
+/// The most bytes to which [`read_all`] may be limited.
+pub const MAX_WHOLE: usize = 67_108_864;
 
 #[cfg(test)]
 mod tests;

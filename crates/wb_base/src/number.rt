@@ -1,7 +1,7 @@
 ghost use Rattle.std.specs.Prelude.{◌≡◌, ◌+◌, ◌^◌, ◌<◌, ◌≤◌, decimal, length, SomeIff};
 ghost use Rattle.std.specs.Str.Parse.{digits_value, AllDigits};
 ghost use Rattle.wb_base.specs.Streams.{HasCause, Puts};
-ghost use Rattle.wb_base.specs.Numbers.{digits_in_front, is_canonical, number_at};
+ghost use Rattle.wb_base.specs.Numbers.{digits_in_front, is_canonical, number_at, sign_text, signed_text};
 
 use crate::stream::{Failed, Sink, give_all};
 use itoa::Buffer;
@@ -66,4 +66,24 @@ pub fn put_number<K: Sink>(sink: &mut K, value: u64) -> Result<(), Failed>
 {
     let mut buffer = Buffer::new();
     give_all(sink, buffer.format(value).as_bytes())
+}
+
+// Gives the minus sign of a negative number.
+fn put_sign<K: Sink>(sink: &mut K, negative: bool) -> Result<(), Failed>
+    ensures took { Puts (K.taken sink.old) (K.taken sink.new) result (sign_text negative) }
+    ensures cause { HasCause (K.faults sink.old) (K.faults sink.new) result }
+{
+    if negative {
+        return give_all(sink, b"-");
+    }
+    Ok(())
+}
+
+/// Gives the decimal text of a number, behind a minus sign where it is negative.
+pub fn put_signed<K: Sink>(sink: &mut K, negative: bool, value: u64) -> Result<(), Failed>
+    ensures took { Puts (K.taken sink.old) (K.taken sink.new) result (signed_text negative value) }
+    ensures cause { HasCause (K.faults sink.old) (K.faults sink.new) result }
+{
+    put_sign(sink, negative)?;
+    put_number(sink, value)
 }

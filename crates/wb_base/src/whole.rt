@@ -1,5 +1,6 @@
 ghost use Rattle.std.specs.Prelude.{◌≡◌, ◌+◌, ◌≤◌, IfOk, IfErr, length, vec_len, IsErrOf};
 ghost use Rattle.wb_base.specs.Streams.{HasCause, ReadsAll, Rose};
+ghost use Rattle.wb_base.specs.declared.TheConstants.{MAX_WHOLE};
 ghost use Rattle.wb_base.specs.Reading.{Refuses};
 ghost use Rattle.wb_base.specs.declared.whole.ReadErr.TheVariants.{Fault, Memory};
 
@@ -45,7 +46,7 @@ impl From<AllocError> for ReadErr {
 /// At `TooLarge` exactly `limit + 1` bytes were taken from the source, at `Fault` at most `limit`, at
 /// `Memory` at most `limit + 1`. It makes at most `limit + 2` calls.
 pub fn read_all<S: Source>(alloc: Global, source: &mut S, limit: usize) -> Result<Vec<u8>, ReadErr>
-    requires { limit ≤ 67108864 }
+    requires { limit ≤ MAX_WHOLE }
     ensures all { IfOk result (λ bytes. ReadsAll (S.left source.old) (S.left source.new) bytes.items) }
     ensures within { IfOk result (λ bytes. length bytes.items ≤ limit) }
     ensures refused { IfErr result (λ e. Refuses limit (S.left source.old) (S.left source.new) e) }

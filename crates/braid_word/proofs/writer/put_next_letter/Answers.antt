@@ -1,6 +1,6 @@
 use Rattle.std.proofs.Common.{[], ◌∷◌, refl}
 use Rattle.wb_base.proofs.StreamLemmas.{Puts-stopped, Puts-more}
-use Rattle.trace_format.proofs.trace.put_next_letter.Goals as goal
+use Rattle.braid_word.proofs.writer.put_next_letter.Goals as goal
 
 pub returns-in_err-give_all-clause-took : goal.returns-in_err-give_all-clause-took
 returns-in_err-give_all-clause-took g c =
