@@ -5,6 +5,7 @@
 use Rattle.std.proofs.Common.{◌≡◌, ◌≢◌, ℕ, suc, ◌+◌, ◌<◌, Bool, true, false, not, cond, eqb, ltb, List, [], ◌∷◌, ◌++◌, length, take, drop, get_or, codes, decimal, Option, Some, None, Result, Ok, Err, refl, ap, ap₂, sym, ◌∙◌, subst, arith}
 use Rattle.std.specs.List.{list_all, position_or_len}
 use Rattle.std.specs.Str.{bytes_eq}
+use Rattle.std.specs.Result.{IfOk}
 use Rattle.std.proofs.lemmas.Bool.{and_parts, eqb-true, ltb-true}
 use Rattle.std.proofs.lemmas.List.{take-append-drop, nil_from_length}
 use Rattle.std.proofs.lemmas.List.Elements.{All-nil, All-cons, All-append, All-get_or}
@@ -20,7 +21,7 @@ use Rattle.trace_format.specs.declared.line.StepLine.TheVariants.{Handle}
 use Rattle.trace_format.specs.declared.line.Line.{Line}
 use Rattle.trace_format.specs.declared.line.Line.TheVariants as lines
 use Rattle.trace_format.specs.declared.line.LineErr.{LineErr}
-use Rattle.trace_format.specs.TraceLines.{keyword_of, behind_keyword, kind_by, field_word, place_at, first_place, verdict_by, said, line_by, line_of, line_text, IsPlace, IsStepLine, IsLine}
+use Rattle.trace_format.specs.TraceLines.{keyword_of, behind_keyword, kind_by, field_word, place_at, first_place, verdict_by, said, line_by, Gives, line_of, line_text, IsPlace, IsStepLine, IsLine}
 use Rattle.trace_format.specs.TraceText.{word_field, step_text, verdict_word}
 use Rattle.braid_word.specs.Words.{Letter}
 use Rattle.braid_word.specs.Notation.{IsReadable, word_text}
@@ -264,6 +265,14 @@ line_of-is line l read = go (kind_by (keyword_of line)) refl read
         = ap (λ keyword. keyword ++ behind_keyword line) (sym word) ∙ append-behind_keyword line in
         subst (λ line. IsText line l) text
         (line_by-is kind (behind_keyword line) l (IsBehind-behind_keyword line) is)
+
+-- so is what a reader answers
+pub IfOk-gives
+    : (line : List ℕ) (result : Result Line LineErr)
+    → Gives result (line_of line)
+    → IfOk result (λ l. (line ≡ line_text l) × IsLine l)
+IfOk-gives line (Ok l) read = let is = line_of-is line l read in (is.text, is.bounds)
+IfOk-gives line (Err e) read = tt
 
 -- ---- What is spelled so is read ----
 

@@ -1,7 +1,8 @@
 // The lines of a trace file, each by itself.
-ghost use Rattle.std.specs.Prelude.{◌≡◌, ◌==◌, Some, None, MatchOption};
+ghost use Rattle.std.specs.Prelude.{◌≡◌, ◌==◌, Some, None, MatchOption, Ok, IfOk};
 ghost use Rattle.std.specs.List.{position};
-ghost use Rattle.trace_format.specs.TraceLines.{Gives, keyword_of, behind_keyword, kind_by, kind_of, field_word, place_at, first_place, verdict_by, line_of};
+ghost use Rattle.trace_format.specs.TraceLines.{Gives, keyword_of, behind_keyword, kind_by, kind_of, field_word, place_at, first_place, verdict_by, line_of, line_text, IsLine};
+ghost use Rattle.trace_format.specs.declared.line.Line.{Line as Said};
 
 use crate::verdict::Verdict;
 use braid_word::{Word, WordErr, read_strict_word};
@@ -180,13 +181,9 @@ fn read_verdict(behind: &[u8]) -> Result<Verdict, LineErr>
     }
 }
 
-/// Reads a line of a trace file of version 1, which is given without its LF.
-///
-/// `Unknown` where it has no keyword, `Long` where its word has more than 100,000 letters that can all be
-/// read, and `Form` for any other fault, as a letter with an index above 255. The format is this
-/// project's.
+// Reads a line by its kind.
 #[tactic(auto, unfolding(crate::specs::TraceLines::line_of))]
-pub fn read_line(alloc: Global, line: &[u8]) -> Result<Line, LineErr>
+fn read_by_kind(alloc: Global, line: &[u8]) -> Result<Line, LineErr>
     ensures { Gives result (line_of line.now) }
 {
     let (keyword, behind) = split_keyword(line);
@@ -201,4 +198,22 @@ pub fn read_line(alloc: Global, line: &[u8]) -> Result<Line, LineErr>
         Some(Kind::Finish) if behind.is_empty() => Ok(Line::Finish),
         Some(Kind::Start | Kind::Finish) => Err(LineErr::Form),
     }
+}
+
+/// Reads a line of a trace file of version 1, which is given without its LF.
+///
+/// `Unknown` where it has no keyword, `Long` where its word has more than 100,000 letters that can all be
+/// read, and `Form` for any other fault, as a letter with an index above 255. The format is this
+/// project's.
+pub fn read_line(alloc: Global, line: &[u8]) -> Result<Line, LineErr>
+    // What is read is spelled so.
+    ensures text { IfOk result (λ l. (line.now ≡ line_text l) × IsLine l) }
+
+    // What is spelled so is read, unless memory runs out.
+    ensures only { (l : Said) → IsLine l → line.now ≡ line_text l → Gives result (Ok l) }
+
+    // Why it is refused.
+    ensures exact { Gives result (line_of line.now) }
+{
+    read_by_kind(alloc, line)
 }

@@ -1,8 +1,8 @@
 ghost use Rattle.std.specs.Prelude.{[], ◌∷◌, true, false};
 ghost use Rattle.braid_word.specs.Words.{letter};
 
-use crate::{Kind, Verdict, kind_of, put_trace, read_line};
-use braid_word::{Account, Letter, read_strict_word};
+use crate::{Kind, Verdict, kind_of, put_trace, read_line, verdict_of};
+use braid_word::{Account, Letter, MAX_LETTERS, Sign, read_strict_word};
 use std::alloc::Global;
 use std::test::Fail;
 use wb_base::MemSink;
@@ -68,6 +68,19 @@ fn reads_the_text_of_a_line_and_nothing_else(rt: HostRuntime) -> Result<(), Fail
     Ok(())
 }
 
+#[test]
+fn refuses_a_word_of_too_many_letters(rt: HostRuntime) -> Result<(), Fail> {
+    let alloc = rt.alloc();
+    let mut line = Vec::from_slice(alloc, b"left")?;
+    for _ in 0..=MAX_LETTERS {
+        line.extend_from_slice(b" 1")?;
+    }
+    assert_eq!(rt; answer(alloc, &line)?.as_str(), "too long");
+    line.extend_from_slice(b" 0")?;
+    assert_eq!(rt; answer(alloc, &line)?.as_str(), "not of the form");
+    Ok(())
+}
+
 // A run that reduced the handle of `1 2 -1`, and has reached `-2 1 2`.
 struct OneStep;
 
@@ -105,5 +118,18 @@ fn writes_a_trace_file(rt: HostRuntime) -> Result<(), Fail> {
     put_trace(&mut sink, &[], right.letters(), &OneStep, Verdict::Less)?;
     let want = "braid-trace 1\nleft\nright 1 2 -1\nh 1 3\nverdict less\nwitness -2 1 2\nend\n";
     assert_eq!(rt; sink.bytes(), want.as_bytes());
+    Ok(())
+}
+
+#[test]
+fn gives_the_verdict_of_a_sign(rt: HostRuntime) -> Result<(), Fail> {
+    for (sign, want) in [
+        (Sign::Positive(2), Some(Verdict::Less)),
+        (Sign::Empty, Some(Verdict::Equal)),
+        (Sign::Negative(1), Some(Verdict::Greater)),
+        (Sign::Mixed(1), None),
+    ] {
+        assert_eq!(rt; verdict_of(sign), want, "of {sign:?}");
+    }
     Ok(())
 }
