@@ -48,7 +48,8 @@ pub fn reduct(alloc: Global, word: &[Letter], p: usize, q: usize) -> Result<Word
     Ok(Word::of(letters))
 }
 
-/// Writes the reduct at a handle over what a vector holds that has room for it. It takes no memory.
+/// Writes the reduct at a handle over what a vector holds that has room for it, and so never ends for want
+/// of memory.
 pub fn write_reduct(word: &[Letter], p: usize, q: usize, into: &mut Vec<Letter>)
     requires handle { IsHandle word.now p q }
     requires room { length (reduct word.now p q) ≤ vec_capacity into.old }

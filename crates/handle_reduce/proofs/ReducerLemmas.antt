@@ -5,6 +5,7 @@ use Rattle.std.proofs.Common.{◌≡◌, ℕ, ◌+◌, ◌<◌, ◌≤◌, List,
 use Rattle.std.proofs.lemmas.Bool.{lt-ltb, le-ltb}
 use Rattle.braid_word.specs.Words.{Letter}
 use Rattle.handle_find.specs.Handles.{IsHandle, leftmost_of, reduct}
+use Rattle.braid_word.specs.declared.TheConstants.{MAX_LETTERS}
 use Rattle.handle_reduce.specs.Runs.{RunState, LimitedRun, IsRunAfter, judged, turn_of, turned, turns, run_after}
 use Rattle.handle_reduce.specs.declared.progress.Progress.{Progress}
 use Rattle.handle_reduce.specs.declared.progress.Progress.TheVariants.{Running, LengthMet}
@@ -120,8 +121,8 @@ pub IsHandle-small
     : (present : List Letter) (found : Option (ℕ × ℕ)) (p q : ℕ)
     → found ≡ leftmost_of present
     → found ≡ Some (p, q)
-    → length present ≤ 100000
-    → (p < q) × (q < 100000)
+    → length present ≤ MAX_LETTERS
+    → (p < q) × (q < MAX_LETTERS)
 IsHandle-small present found p q is some short =
     let h = IsHandle-found present present found p q is some refl in (h.ordered, omega (arith, h.within))
 

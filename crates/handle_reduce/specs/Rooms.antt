@@ -2,6 +2,8 @@
 use Rattle.std.specs.Prelude.{◌≡◌, ℕ, ◌<◌, ◌≤◌, List, length, Option}
 use Rattle.braid_word.specs.Words.{Letter}
 use Rattle.handle_find.specs.Handles.{leftmost_of}
+use Rattle.braid_word.specs.declared.TheConstants.{MAX_LETTERS}
+use Rattle.handle_reduce.specs.declared.TheConstants.{MAX_BOUND}
 use Rattle.handle_reduce.specs.declared.progress.Progress.{Progress}
 use Rattle.handle_reduce.specs.declared.progress.Progress.TheVariants.{Running}
 
@@ -17,8 +19,8 @@ pub record GoesOn (present : List Letter) (steps : List (ℕ × ℕ)) (found : O
 
 -- The numbers are small, and what a running reducer keeps.
 pub record Keeps (progress : Progress) (present : List Letter) (steps : List (ℕ × ℕ)) (found : Option (ℕ × ℕ)) (handles limit : ℕ) (room next_room steps_room : ℕ) : Type 0 where
-  pub few_handles : handles ≤ 100000
-  pub small_limit : limit ≤ 100000
-  pub short_word : length present ≤ 100000
+  pub few_handles : handles ≤ MAX_BOUND
+  pub small_limit : limit ≤ MAX_BOUND
+  pub short_word : length present ≤ MAX_LETTERS
   pub few_steps : length steps ≤ handles
   pub running : progress ≡ Running → GoesOn present steps found handles limit room next_room steps_room

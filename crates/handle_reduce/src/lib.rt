@@ -8,3 +8,6 @@ mod tests;
 
 pub use progress::Progress;
 pub use reducer::Reducer;
+
+/// The most reductions, and the most letters, that a run may be limited to.
+pub const MAX_BOUND: u32 = 100_000;

@@ -1,6 +1,8 @@
 ghost use Rattle.std.specs.Prelude.{◌≡◌, ◌≢◌, ℕ, ◌+◌, ◌≤◌, ◌<◌, List, length, IfOk, IsTrue, ◌↔◌};
 ghost use Rattle.braid_word.specs.Words.{Letter as Signed, IsOn};
 ghost use Rattle.braid_word.specs.Equivalence.{EquivalentOn};
+ghost use Rattle.braid_word.specs.declared.TheConstants.{MAX_LETTERS};
+ghost use Rattle.handle_reduce.specs.declared.TheConstants.{MAX_BOUND};
 ghost use Rattle.handle_reduce.specs.Runs.{IsRunAfter, judged, turned};
 
 use crate::progress::Progress;
@@ -57,7 +59,7 @@ fn judge(found: Option<(usize, usize)>, word: &[Letter], made: u32, handles: u32
 
 // The step that reduces a handle, with its places counted from 1.
 fn step_at(start: usize, end: usize) -> (u32, u32)
-    requires { (start < end) × (end < 100000) }
+    requires { (start < end) × (end < MAX_LETTERS) }
     ensures { result ≡ (start + 1, end + 1) }
 {
     (start as u32 + 1, end as u32 + 1)
@@ -69,9 +71,9 @@ impl Reducer {
     ///
     /// It takes the memory of the whole run.
     pub fn begin(alloc: Global, word: Word, handles: u32, limit: u32) -> Result<Reducer, AllocError>
-        requires word { length word ≤ 100000 }
-        requires handles { handles ≤ 100000 }
-        requires limit { limit ≤ 100000 }
+        requires word { length word ≤ MAX_LETTERS }
+        requires handles { handles ≤ MAX_BOUND }
+        requires limit { limit ≤ MAX_BOUND }
         ensures { IfOk result (λ r. IsRunAfter word handles limit 0 r) }
     {
         let mut present = word.into_letters();

@@ -1,7 +1,7 @@
 ghost use Rattle.std.specs.Prelude.{◌≡◌, ◌≤◌, map, string_bytes, IfSome};
 ghost use Rattle.wb_top.specs.Commands.{bound_of, command_of, IsBounded};
 
-use crate::MAX_BOUND;
+use handle_reduce::MAX_BOUND;
 use wb_base::read_number;
 
 /// A command of the program.
@@ -17,7 +17,7 @@ fn read_bound(word: &[u8]) -> Option<u32>
     ensures within { IfSome result (λ n. n ≤ MAX_BOUND) }
 {
     let (value, digits) = read_number(word)?;
-    if digits == word.len() && value <= MAX_BOUND {
+    if digits == word.len() && value <= u64::from(MAX_BOUND) {
         Some(value as u32)
     } else {
         None

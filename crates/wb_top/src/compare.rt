@@ -1,6 +1,6 @@
 ghost use Rattle.std.specs.Prelude.{◌≡◌, ◌≢◌, ◌≤◌, IfOk, Some};
 ghost use Rattle.braid_word.specs.Notation.{word_of};
-ghost use Rattle.wb_top.specs.declared.TheConstants.{MAX_BOUND};
+ghost use Rattle.handle_reduce.specs.declared.TheConstants.{MAX_BOUND};
 ghost use Rattle.wb_top.specs.Answers.{word_in, two_words, compared, compared_words};
 ghost use Rattle.wb_top.specs.Outcomes.{answer_of};
 
