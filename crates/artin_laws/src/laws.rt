@@ -1,7 +1,7 @@
 ghost use Rattle.std.specs.Prelude.{[], ◌∷◌, true, false};
 ghost use Rattle.braid_word.specs.Equivalence.{Equivalent};
 ghost use Rattle.braid_word.specs.Order.{IsSigmaPositiveAt, IsLess, IsEqual, IsGreater};
-ghost use Rattle.free_word.specs.FreeWords.{gen};
+ghost use Rattle.free_word.specs.FreeWords.{gen, IsReduced};
 ghost use Rattle.artin_laws.specs.Action.{ActAlike, EndsIn, act};
 
 use braid_word::Letter;
@@ -13,11 +13,12 @@ pub fn law_relations(u: &[Letter], v: &[Letter])
     ensures { Equivalent u.now v.now → ActAlike u.now v.now }
 {}
 
-/// A sigma_i-positive word sends the generator of index `i` to a word that ends in its inverse.
+/// A sigma_i-positive word sends the generator of index `i` to a reduced word that ends in its inverse.
 ///
 /// The law is the contract; the body does nothing. After Larue, On braid words and irreflexivity.
 pub fn law_larue(word: &[Letter], i: u16)
-    ensures { IsSigmaPositiveAt i word.now → EndsIn (gen i true) (act word.now (gen i false ∷ [])) }
+    ensures ends { IsSigmaPositiveAt i word.now → EndsIn (gen i true) (act word.now (gen i false ∷ [])) }
+    ensures reduced { IsReduced (act word.now (gen i false ∷ [])) }
 {}
 
 /// No two of the verdicts less, equal and greater hold of two braid words.
