@@ -1,8 +1,10 @@
 -- Laws of the lines of a text.
-use Rattle.std.proofs.Common.{◌≡◌, ◌≢◌, ℕ, suc, zero, ◌<◌, List, [], ◌∷◌, length, get_or, take, drop, ap, refl, ◌∙◌, arith}
-use Rattle.std.specs.List.{onto_first}
+--
+-- Texts without LF that stand as lines one after the other are its lines (`lines_of-flat_map`).
+use Rattle.std.proofs.Common.{◌≡◌, ◌≢◌, ℕ, suc, zero, ◌<◌, List, [], ◌∷◌, ◌++◌, length, get_or, take, drop, ap, refl, ◌∙◌, arith}
+use Rattle.std.specs.List.{AllByRecursion, flat_map, onto_first}
 use Rattle.std.proofs.lemmas.Bool.{ne_eqb}
-use Rattle.wb_base.specs.Lines.{lines_of}
+use Rattle.wb_base.specs.Lines.{lines_of, line}
 
 -- a byte that is no LF goes in front of the first line
 lines_of-cons : (b : ℕ) (bytes : List ℕ) → b ≢ 10 → lines_of (b ∷ bytes) ≡ onto_first b (lines_of bytes)
@@ -30,3 +32,29 @@ lines_of-last [] some none = absurd (omega arith)
 lines_of-last (b ∷ []) some none = lines_of-cons b [] (none 0 (omega arith))
 lines_of-last (b ∷ c ∷ bytes) some none =
     lines_of-cons b (c ∷ bytes) (none 0 (omega arith)) ∙ ap (onto_first b) (lines_of-last (c ∷ bytes) (omega arith) (λ k below. none (suc k) (omega arith)))
+
+-- ---- Texts as lines ----
+
+-- No byte of a text is an LF.
+abbrev pub HasNoLf : List ℕ → Type 0
+HasNoLf text = (k : ℕ) → k < length text → get_or text k 0 ≢ 10
+
+-- a text without LF that stands in front as a line is the first line
+lines_of-line
+    : (text rest : List ℕ)
+    → HasNoLf text
+    → lines_of (line text ++ rest) ≡ text ∷ lines_of rest
+lines_of-line [] rest none = refl
+lines_of-line (b ∷ text) rest none =
+    lines_of-cons b (line text ++ rest) (none 0 (omega arith))
+    ∙ ap (onto_first b) (lines_of-line text rest (λ k below. none (suc k) (omega arith)))
+
+-- texts without LF that stand one after the other, each as a line, are the lines
+pub lines_of-flat_map
+    : (texts : List (List ℕ))
+    → AllByRecursion HasNoLf texts
+    → lines_of (flat_map line texts) ≡ texts
+lines_of-flat_map [] none = refl
+lines_of-flat_map (text ∷ texts) none =
+    lines_of-line text (flat_map line texts) none.0
+    ∙ ap (λ more. text ∷ more) (lines_of-flat_map texts none.1)

@@ -118,7 +118,7 @@ append_known-two old mid new a b first second =
     second ∙ ap (λ known. append_known known b) first ∙ append_known-append old a b
 
 -- a text of a list, cut before and behind one element
-flat_map-split
+pub flat_map-split
     : {X : Type 0} (text_of : X → List ℕ) (xs : List X) (i : ℕ) (x : X)
     → i < length xs
     → x ≡ get_or xs i x
@@ -150,6 +150,19 @@ pub Puts-stopped_get
 Puts-stopped_get old mid new result text_of xs i x found failed put front =
     Puts-stopped_at old mid new result text_of xs i x (slice_get_within xs i x found) (sym (get_or_from_slice_get xs i x x found)) failed put front
 
+-- the texts of the elements before a place and of the one there
+pub flat_map-take_more
+    : {X : Type 0} (text_of : X → List ℕ) (xs : List X) (i : ℕ) (x : X)
+    → slice_get xs i ≡ Some x
+    → flat_map text_of (take (i + 1) xs) ≡ flat_map text_of (take i xs) ++ text_of x
+flat_map-take_more text_of xs i x found =
+    let front : take (i + 1) xs ≡ take i xs ++ x ∷ []
+    = take_more xs i x (slice_get_within xs i x found)
+    ∙ ap (λ y. take i xs ++ y ∷ []) (get_or_from_slice_get xs i x x found) in
+    ap (flat_map text_of) front
+    ∙ flat_map-append text_of (take i xs) (x ∷ [])
+    ∙ ap (λ rest. flat_map text_of (take i xs) ++ rest) (append-nil (text_of x))
+
 -- the texts of one element more of a list
 pub append_known-get
     : {X : Type 0} (old mid new : Option (List ℕ)) (text_of : X → List ℕ) (xs : List X) (i : ℕ) (x : X)
@@ -158,11 +171,8 @@ pub append_known-get
     → new ≡ append_known mid (text_of x)
     → new ≡ append_known old (flat_map text_of (take (i + 1) xs))
 append_known-get old mid new text_of xs i x found put more =
-    let front : take (i + 1) xs ≡ take i xs ++ x ∷ []
-    = take_more xs i x (slice_get_within xs i x found) ∙ ap (λ y. take i xs ++ y ∷ []) (get_or_from_slice_get xs i x x found) in
-    let text : flat_map text_of (take (i + 1) xs) ≡ flat_map text_of (take i xs) ++ text_of x
-    = ap (flat_map text_of) front ∙ flat_map-append text_of (take i xs) (x ∷ []) ∙ ap (λ rest. flat_map text_of (take i xs) ++ rest) (append-nil (text_of x)) in
-    append_known-two old mid new _ _ put more ∙ ap (append_known old) (sym text)
+    append_known-two old mid new _ _ put more
+    ∙ ap (append_known old) (sym (flat_map-take_more text_of xs i x found))
 
 -- ---- Several calls, one after the other ----
 

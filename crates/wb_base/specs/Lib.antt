@@ -5,3 +5,4 @@ pub mod Lines
 pub mod StreamStates
 pub mod SinkRoom
 pub mod Status
+pub mod Names

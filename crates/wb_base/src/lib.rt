@@ -1,20 +1,24 @@
-//! Streams of bytes, decimal numbers, lines, and the program's status.
+//! Streams of bytes, decimal numbers, lines, names, the program's status, and a count of steps.
 #![tactic(auto)]
 
 mod line_iter;
 mod memory;
+mod name;
 mod number;
 mod standard;
 mod status;
+mod steps;
 mod stream;
 mod text;
 mod whole;
 
 pub use line_iter::{LineIter, lines};
 pub use memory::{MemSink, MemSource, SureSource};
+pub use name::Name;
 pub use number::{is_canonical, put_number, put_signed, read_number};
 pub use standard::{StdSink, StdSource};
 pub use status::Status;
+pub use steps::Steps;
 pub use stream::{Failed, Sink, Source, give_all};
 pub use text::{put_line, put_numbered, put_numbered_line};
 pub use whole::{ReadErr, read_all};

@@ -72,6 +72,7 @@ pub fn put_number<K: Sink>(sink: &mut K, value: u64) -> Result<(), Failed>
 fn put_sign<K: Sink>(sink: &mut K, negative: bool) -> Result<(), Failed>
     ensures took { Puts (K.taken sink.old) (K.taken sink.new) result (sign_text negative) }
     ensures cause { HasCause (K.faults sink.old) (K.faults sink.new) result }
+    ensures waits { K.waiting sink.new ≤ K.waiting sink.old + length (sign_text negative) }
 {
     if negative {
         return give_all(sink, b"-");
@@ -83,6 +84,7 @@ fn put_sign<K: Sink>(sink: &mut K, negative: bool) -> Result<(), Failed>
 pub fn put_signed<K: Sink>(sink: &mut K, negative: bool, value: u64) -> Result<(), Failed>
     ensures took { Puts (K.taken sink.old) (K.taken sink.new) result (signed_text negative value) }
     ensures cause { HasCause (K.faults sink.old) (K.faults sink.new) result }
+    ensures waits { K.waiting sink.new ≤ K.waiting sink.old + length (signed_text negative value) }
 {
     put_sign(sink, negative)?;
     put_number(sink, value)

@@ -1,10 +1,15 @@
 // Worked values, calls that fail in mid-stream, and the adapters over readers and writers.
+ghost use Rattle.std.specs.Prelude.{◌≡◌, ◌<◌, ◌↔◌, IsTrue};
+
 use crate::{
-    MemSink, MemSource, ReadErr, Sink, Status, StdSink, StdSource, SureSource, give_all,
-    is_canonical, lines, put_number, read_all, read_number,
+    MemSink, MemSource, Name, ReadErr, Sink, Status, StdSink, StdSource, Steps, SureSource,
+    give_all, is_canonical, lines, put_number, read_all, read_number,
 };
 use std::alloc::{AllocError, Global};
 use std::io::{Error, ErrorKind, Read, Result as IoResult, Write};
+use std::marker::Brand;
+use std::mem::size_of_val;
+use std::sync::ledger::{Blank, Ledger};
 use std::test::Fail;
 
 #[test]
@@ -72,6 +77,22 @@ fn a_status_is_an_exit_code(rt: HostRuntime) {
     for (status, want) in cases {
         assert_eq!(rt; status.code(), want, "at {status:?}");
     }
+}
+
+// How many bytes a counter has.
+fn bytes_of_counter<L: Ledger>(blank: Blank) -> usize
+    requires name { blank.name ≡ L.name }
+    requires parts { blank.parts ≡ L.parts }
+    requires shared { 0 < blank.parts }
+{
+    let mut steps = Steps::<L>::new(blank);
+    steps.tick();
+    size_of_val(&steps)
+}
+
+#[test]
+fn a_counter_of_steps_has_no_bytes(rt: HostRuntime) {
+    assert_eq!(rt; bytes_of_counter::<Brand>(Blank::new(1)), 0);
 }
 
 // The bytes that were read whole, or why they weren't.
@@ -223,4 +244,52 @@ fn an_adapter_loses_no_byte_at_an_error(rt: HostRuntime) -> Result<(), Fail> {
     assert_eq!(rt; writer.inner.len(), 8_192);
     assert!(rt; bytes.starts_with(&writer.inner));
     Ok(())
+}
+
+// The derived comparison of names is that of their bytes.
+fn is_same(a: &Name, b: &Name) -> bool
+    ensures { IsTrue result ↔ (a.now ≡ b.now) }
+{
+    a == b
+}
+
+#[test]
+fn a_name_is_1_to_32_small_letters_and_digits(rt: HostRuntime) {
+    let cases: [(&[u8], bool); 14] = [
+        (b"a", true),
+        (b"x", true),
+        (b"z9", true),
+        (b"abcdefghijklmnopqrstuvwxyz012345", true),
+        (b"abcdefghijklmnopqrstuvwxyz0123456", false),
+        (b"", false),
+        (b"1a", false),
+        (b"A", false),
+        (b"aB", false),
+        (b"a-b", false),
+        (b"a b", false),
+        (b"a`", false),
+        (b"a{", false),
+        (b"a:", false),
+    ];
+    for (bytes, is_name) in cases {
+        match Name::read(bytes) {
+            Some(name) => assert!(rt; is_name && name.bytes() == bytes, "at {bytes:?}"),
+            None => assert!(rt; !is_name, "at {bytes:?}"),
+        }
+    }
+}
+
+#[test]
+fn names_are_equal_where_their_bytes_are(rt: HostRuntime) {
+    let cases: [(&[u8], &[u8], bool); 4] = [
+        (b"ab", b"ab", true),
+        (b"ab", b"a", false),
+        (b"a", b"ab", false),
+        (b"ab", b"ac", false),
+    ];
+    for (a, b, same) in cases {
+        if let (Some(a), Some(b)) = (Name::read(a), Name::read(b)) {
+            assert_eq!(rt; is_same(&a, &b), same);
+        }
+    }
 }
