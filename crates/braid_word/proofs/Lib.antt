@@ -5,6 +5,8 @@ pub mod RewritingLemmas
 pub mod ShiftLemmas
 pub mod SignLemmas
 pub mod NotationLemmas
+pub mod KeptLemmas
 pub mod PieceLemmas
+pub mod ByteLemmas
 pub mod SpellingLemmas
 pub mod ReadWordLemmas

@@ -2,52 +2,30 @@
 --
 -- A line is read part by part. `IsRead` says what is known between two parts: it holds at the
 -- start, and each part keeps it. From it come the fault of a part (`Fails-part`), and behind the
--- last part the word of the line (`word_by-end`, `word_by-too_long`).
+-- last part the word of the line (`Gives-parts`).
 --
 --   split line             the parts of a line between single spaces
 --   size parts             how many bytes some parts have, with one more for each
 --   read_from place parts  the letters of some parts, of which the first begins at this place
---   after w read           w, and then the letters that were read; a fault stays
 --   rest parts line        the parts of a line that are left behind so many
-use Rattle.std.proofs.Common.{◌≡◌, ℕ, ◌+◌, ◌<◌, ◌≤◌, Bool, true, false, List, [], ◌∷◌, ◌++◌, take, drop, get_or, length, filter, eqb, refl, ap, sym, ◌∙◌, if◌then◌else◌, append_assoc, length-append, ltb, arith, Result, Ok, Err}
+use Rattle.std.proofs.Common.{◌≡◌, ℕ, ◌+◌, ◌<◌, ◌≤◌, Bool, true, false, List, [], ◌∷◌, ◌++◌, take, drop, get_or, length, filter, eqb, refl, ap, sym, ◌∙◌, if◌then◌else◌, arith, Result, Ok, Err}
 use Rattle.std.specs.List.{slice_split, onto_first}
 use Rattle.std.specs.Str.Parse.{AllDigits}
-use Rattle.std.proofs.lemmas.Bool.{and_parts, lt-ltb, le-ltb, eqb-true}
-use Rattle.std.proofs.lemmas.List.{append-nil, take-append-le, take_all, length-take, drop_more, drop_all}
+use Rattle.std.proofs.lemmas.Bool.{and_parts, eqb-true}
+use Rattle.std.proofs.lemmas.List.{drop_more, drop_all}
 use Rattle.wb_base.proofs.NumberLemmas.{AllDigits-list_all}
 use Rattle.braid_word.specs.Words.{Letter}
-use Rattle.braid_word.specs.Notation.{Piece, placed_from, parts_of, is_numeral, is_piece, letter_of, letters_of, in_front, not_too_long, word_by, strict_word_of, Fails}
+use Rattle.braid_word.specs.NumberNotation.{Piece, placed_from, parts_of, is_numeral, letter_of}
+use Rattle.braid_word.specs.Notation.{is_piece, letters_of, in_front, not_too_long, word_by, strict_word_of, Fails, Gives}
 use Rattle.braid_word.specs.declared.TheConstants.{MAX_LETTERS}
 use Rattle.braid_word.specs.declared.reader.WordErr.{WordErr}
-use Rattle.braid_word.specs.declared.reader.WordErr.TheVariants.{BadLetter, BadIndex, TooLong, Memory}
+use Rattle.braid_word.proofs.KeptLemmas.{IsKept, IsKept-none, IsKept-on, IsKept-letter, Fails-kept, Gives-kept}
 
 -- ---- Digits ----
 
 -- a numeral has digits alone
 pub AllDigits-is_numeral : (bytes : List ℕ) → is_numeral bytes ≡ true → AllDigits 10 bytes
 AllDigits-is_numeral bytes numeral = AllDigits-list_all bytes (and_parts _ _ numeral).0
-
--- ---- Letters that are kept ----
-
--- a start of a word that is not full takes one letter more
-pub take-push
-    : (n : ℕ) (w start : List Letter) (x : Letter)
-    → start ≡ take n w
-    → length start < n
-    → start ++ x ∷ [] ≡ take n (w ++ x ∷ [])
-take-push n w start x is below =
-    let short : length w < n = omega (arith, ap length is, length-take n w) in
-    let more : length (w ++ x ∷ []) ≤ n = simp length-append (omega arith) in
-    rw (is, take_all n w (omega arith), take_all n (w ++ x ∷ []) more) refl
-
--- a full one stays
-pub take-push_full
-    : (n : ℕ) (w start : List Letter) (x : Letter)
-    → start ≡ take n w
-    → n ≤ length start
-    → start ≡ take n (w ++ x ∷ [])
-take-push_full n w start x is full =
-    let long : n ≤ length w = omega (arith, ap length is, length-take n w) in rw take-append-le is
 
 -- ---- Parts ----
 
@@ -93,23 +71,6 @@ read_from strict place parts =
     letters_of
     (filter (λ (piece : Piece). is_piece strict piece.bytes) (placed_from place parts))
 
--- A word, and then the letters that were read; a fault stays.
-abbrev pub after : List Letter → Result (List Letter) WordErr → Result (List Letter) WordErr
-after w (Ok v) = Ok (w ++ v)
-after w (Err e) = Err e
-
--- before any letter
-after-nil : (read : Result (List Letter) WordErr) → after [] read ≡ read
-after-nil (Ok v) = refl
-after-nil (Err e) = refl
-
--- one letter more
-after-in_front
-    : (w : List Letter) (x : Letter) (read : Result (List Letter) WordErr)
-    → after w (in_front (Ok x) read) ≡ after (w ++ x ∷ []) read
-after-in_front w x (Ok v) = ap Ok (sym (append_assoc w (x ∷ []) v))
-after-in_front w x (Err e) = refl
-
 -- a part that is no piece has no letter
 read_from-empty
     : (strict : Bool) (place : ℕ) (part : List ℕ) (parts : List (List ℕ))
@@ -135,16 +96,14 @@ read_from-piece strict place part parts some =
 abbrev pub rest : ℕ → List ℕ → List (List ℕ)
 rest parts line = drop parts (split line)
 
--- What is known of a line when some of its parts were read: the place of the next, the letters, and
--- those of them that are kept.
+-- What is known of a line when some of its parts were read: the place of the next, and the letters.
 pub record IsRead
     (strict : Bool) (line : List ℕ) (parts place count : ℕ) (kept : List Letter) : Type 0 where
-  pub word : List Letter
-  pub counted : count ≡ length word
-  pub start : kept ≡ take MAX_LETTERS word
   pub few : count < place
   pub left : place + size (rest parts line) ≡ length line + 2
-  pub read : read_from strict 1 (split line) ≡ after word (read_from strict place (rest parts line))
+  pub so_far
+      : IsKept (read_from strict 1 (split line)) (read_from strict place (rest parts line)) count
+      kept
 
 -- The next part, where some were read.
 pub record IsNext (line : List ℕ) (parts : ℕ) (part : List ℕ) : Type 0 where
@@ -155,12 +114,9 @@ pub record IsNext (line : List ℕ) (parts : ℕ) (part : List ℕ) : Type 0 whe
 pub IsRead-none : (strict : Bool) (line : List ℕ) → IsRead strict line 0 1 0 []
 IsRead-none strict line =
     record {
-      word = [];
-      counted = refl;
-      start = refl;
       few = omega arith;
       left = omega (arith, size-split line);
-      read = sym (after-nil (read_from strict 1 (split line)));
+      so_far = IsKept-none (read_from strict 1 (split line));
     }
 
 -- what is left is the next part and what stands behind it
@@ -196,32 +152,30 @@ pub IsRead-empty
     → IsRead strict line (parts + 1) (place + (length part + 1)) count kept
 IsRead-empty {strict} {line} {part} {kept} {parts} {place} is next none =
     let left = rest (parts + 1) line in
-    let on = ap (read_from strict place) (rest-next next)
-    ∙ read_from-empty strict place part left none in
     record {
-      word = is.word;
-      counted = is.counted;
-      start = is.start;
       few = omega arith;
       left = omega (arith, size-rest next);
-      read = is.read ∙ ap (after is.word) on;
+      so_far = IsKept-on is.so_far
+          (ap (read_from strict place) (rest-next next)
+          ∙ read_from-empty strict place part left none);
     }
 
 -- what is read at a part that isn't empty
-read_from-next
+so_far-next
     : {strict : Bool} {line part kept : _} {parts place count : ℕ} {letter : Result Letter WordErr}
-    → (is : IsRead strict line parts place count kept)
+    → IsRead strict line parts place count kept
     → IsNext line parts part
     → is_piece strict part ≡ true
     → letter_at place part ≡ letter
-    → read_from strict 1 (split line)
-    ≡ after is.word
+    → IsKept (read_from strict 1 (split line))
     (in_front letter (read_from strict (place + (length part + 1)) (rest (parts + 1) line)))
-read_from-next {strict} {line} {part} {kept} {parts} {place} is next some is_letter =
+    count kept
+so_far-next {strict} {line} {part} {kept} {parts} {place} is next some is_letter =
     let left = rest (parts + 1) line in
-    let on = ap (read_from strict place) (rest-next next)
-    ∙ read_from-piece strict place part left some in
-    rw is_letter at (is.read ∙ ap (after is.word) on)
+    IsKept-on is.so_far
+    (ap (read_from strict place) (rest-next next)
+    ∙ read_from-piece strict place part left some
+    ∙ ap (λ letter. in_front letter (read_from strict (place + (length part + 1)) left)) is_letter)
 
 -- behind a part that is a letter
 pub IsRead-letter
@@ -232,24 +186,14 @@ pub IsRead-letter
     → letter_at place part ≡ Ok x
     → ((w : List Letter) → kept ≡ take MAX_LETTERS w → more ≡ take MAX_LETTERS (w ++ x ∷ []))
     → IsRead strict line (parts + 1) (place + (length part + 1)) (count + 1) more
-IsRead-letter {x = x} is next some letter keeps =
+IsRead-letter is next some letter keeps =
     record {
-      word = is.word ++ x ∷ [];
-      counted = simp length-append (omega arith);
-      start = keeps is.word is.start;
       few = omega arith;
       left = omega (arith, size-rest next);
-      read = read_from-next is next some letter ∙ after-in_front is.word x _;
+      so_far = IsKept-letter (so_far-next is next some letter) keeps;
     }
 
 -- ---- The word ----
-
--- a fault that is read may be answered
-Fails-fault : (e : WordErr) (read : Result (List Letter) WordErr) → read ≡ Err e → Fails e read
-Fails-fault (BadLetter place) read is = is
-Fails-fault (BadIndex place) read is = is
-Fails-fault (TooLong count) read is = is
-Fails-fault Memory read is = tt
 
 -- the fault of a part is the answer
 pub Fails-part
@@ -260,45 +204,23 @@ pub Fails-part
     → letter_at place part ≡ Err e
     → Fails e (word_by strict line)
 unfolding word_by
-Fails-part {strict} {line} {e = e} is next some fault =
-    Fails-fault e (word_by strict line) (ap not_too_long (read_from-next is next some fault))
+Fails-part is next some fault = Fails-kept (so_far-next is next some fault)
 
--- behind the last part all letters were read
-read_from-all
+-- behind the last part the answer is that of all letters
+pub Gives-parts
     : {strict : Bool} {line kept : _} {parts place count : ℕ}
-    → (is : IsRead strict line parts place count kept)
-    → length (split line) ≤ parts
-    → read_from strict 1 (split line) ≡ Ok is.word
-read_from-all {strict} {line} {kept} {parts} {place} is all =
-    let none = drop_all parts (split line) all in
-    is.read
-    ∙ ap (λ left. after is.word (read_from strict place left)) none
-    ∙ ap Ok (append-nil is.word)
-
--- a word that isn't too long was kept whole
-pub word_by-end
-    : {strict : Bool} {line kept : _} {parts place count : ℕ}
+    → (result : Result (List Letter) WordErr)
     → IsRead strict line parts place count kept
     → length (split line) ≤ parts
-    → count ≤ MAX_LETTERS
-    → word_by strict line ≡ Ok kept
+    → ((w : List Letter)
+    → kept ≡ take MAX_LETTERS w
+    → count ≡ length w
+    → Gives result (not_too_long (Ok w)))
+    → Gives result (word_by strict line)
 unfolding word_by
-word_by-end {strict} {line} {kept} is all short =
-    let test : ltb MAX_LETTERS (length is.word) ≡ false = le-ltb _ _ (omega arith) in
-    let whole : kept ≡ is.word = is.start ∙ take_all MAX_LETTERS is.word (omega arith) in
-    ap not_too_long (read_from-all is all) ∙ rw (test, whole) refl
-
--- the letters of another were counted
-pub word_by-too_long
-    : {strict : Bool} {line kept : _} {parts place count : ℕ}
-    → IsRead strict line parts place count kept
-    → length (split line) ≤ parts
-    → MAX_LETTERS < count
-    → word_by strict line ≡ Err (TooLong count)
-unfolding word_by
-word_by-too_long is all long =
-    let test : ltb MAX_LETTERS (length is.word) ≡ true = lt-ltb _ _ (omega arith) in
-    ap not_too_long (read_from-all is all) ∙ rw (test, is.counted) refl
+Gives-parts {strict} {line} {kept} {parts} {place} result is all gives =
+    Gives-kept result
+    (IsKept-on is.so_far (ap (read_from strict place) (drop_all parts (split line) all))) gives
 
 -- a filter that keeps all
 filter-true : {X : Type 0} (xs : List X) → filter (λ x. true) xs ≡ xs

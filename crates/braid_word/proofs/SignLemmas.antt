@@ -2,18 +2,20 @@
 --
 -- The sign of a word with one more letter at its end is determined by the sign before and the
 -- letter: `sign_of-append_lower`, `.._higher`, `.._alike` and `.._mixed`. `HasParts` is what each
--- sign tells of a word. A word of a positive sign is sigma-positive (`IsSigmaPositiveAt-sign_of`), and one
--- of a negative sign sigma-negative (`IsSigmaNegativeAt-sign_of`).
-use Rattle.std.proofs.Common.{◌≡◌, ◌≢◌, ℕ, ◌<◌, ◌≤◌, ◌==◌, min, Bool, true, false, cond, not, ◌&&◌, ◌||◌, ◌⊎◌, inl, inr, List, [], ◌∷◌, ◌++◌, refl, sym, subst, ap, ap₂, ◌∙◌, arith}
-use Rattle.std.proofs.lemmas.Bool.{ne_eqb, eq-eqb, eqb-true, and_left, cases_eq, cases_Bool, or_cases, or_left, or_right, or_parts, and_parts, not-true, both_ways}
+-- sign tells of a word, and what determines its sign (`sign_of-HasParts`). A word of a positive sign is
+-- sigma-positive (`IsSigmaPositiveAt-sign_of`) and the other way round (`sign_of-IsSigmaPositiveAt`); so
+-- for negative and mixed ones. `Positive-iff` and its like have both ways.
+use Rattle.std.proofs.Common.{◌≡◌, ◌≢◌, ◌↔◌, ℕ, ◌<◌, ◌≤◌, ◌==◌, min, Bool, true, false, cond, not, ◌&&◌, ◌||◌, ◌⊎◌, inl, inr, List, [], ◌∷◌, ◌++◌, length, take, refl, sym, subst, ap, ap₂, ◌∙◌, arith}
+use Rattle.std.proofs.lemmas.Bool.{ne_eqb, eq-eqb, eqb-true, and_left, cases_eq, cases_lt, cases_Bool, false_from_ne_true, or_cases, or_left, or_right, or_parts, and_parts, not-true, both_ways}
 use Rattle.std.proofs.Math.Bool.{or-false}
+use Rattle.std.proofs.lemmas.List.{take_all}
 use Rattle.std.proofs.lemmas.List.Folds.{list_any-append}
-use Rattle.braid_word.specs.Words.{Letter, letter, opposite, EachLetter, SomeLetter}
-use Rattle.braid_word.specs.Order.{IsSigmaPositiveAt, IsSigmaNegativeAt}
+use Rattle.braid_word.specs.Words.{Letter, letter, opposite, inverse, EachLetter, SomeLetter}
+use Rattle.braid_word.specs.Order.{IsSigmaPositiveAt, IsSigmaNegativeAt, IsMixedAt}
 use Rattle.braid_word.specs.Sign.{least_index, occurs, sign_at, sign_of}
 use Rattle.braid_word.specs.declared.sign.Sign.{Sign}
 use Rattle.braid_word.specs.declared.sign.Sign.TheVariants.{Empty, Positive, Negative, Mixed}
-use Rattle.braid_word.proofs.WordLemmas.{each_both, each_inverse, some_inverse, opposite-opposite}
+use Rattle.braid_word.proofs.WordLemmas.{each_both, each_weaker, each_inverse, some_inverse, opposite-opposite, inverse-inverse}
 
 -- ---- The least index and the letters that have it ----
 
@@ -430,3 +432,156 @@ IsSigmaNegativeAt-sign_of i w is =
           w
           (each_both _ _ w parts.at_least (each_occurs i false w parts.positive_is)),
     )
+
+-- a word of a mixed sign has letters of both signs
+pub IsMixedAt-sign_of : (i : ℕ) (w : List Letter) → sign_of w ≡ Mixed i → IsMixedAt i w
+IsMixedAt-sign_of i w is =
+    let parts = HasParts-Mixed i w is in (
+      some_occurs i false w parts.positive_is,
+      some_occurs i true w parts.negative_is,
+      parts.at_least,
+    )
+
+-- ---- What determines a sign ----
+
+-- the letter of this index and sign is in the word
+occurs-some
+    : (i : ℕ) (negative : Bool) (w : List Letter)
+    → SomeLetter (λ x. x ≡ letter i negative) w
+    → occurs i negative w ≡ true
+occurs-some i negative [] some = absurd some
+occurs-some i negative (x ∷ w) (inl here) =
+    or_left _ _ (ap (is_letter i negative) here ∙ is_letter-letter i negative)
+occurs-some i negative (x ∷ w) (inr later) = or_right _ _ (occurs-some i negative w later)
+
+-- no letter is that of this index and sign
+occurs-each
+    : (i : ℕ) (negative : Bool) (w : List Letter)
+    → EachLetter (λ x. x ≢ letter i negative) w
+    → occurs i negative w ≡ false
+occurs-each i negative [] absent = refl
+occurs-each i negative (x ∷ w) absent =
+    let here : is_letter i negative x ≡ false
+    = false_from_ne_true _ (λ seen. absent.0 (is_letter-is i negative x seen)) in
+    rw here (occurs-each i negative w absent.1)
+
+-- the least index is at least what each index is
+least_index-each
+    : (i : ℕ) (y : Letter) (v : List Letter)
+    → EachLetter (λ x. i ≤ x.index) (y ∷ v)
+    → i ≤ least_index y v
+least_index-each i y [] at_least = at_least.0
+least_index-each i y (z ∷ v) at_least =
+    let head : i ≤ y.index = at_least.0 in omega (arith, head, least_index-each i z v at_least.1)
+
+-- an index that occurs, and below which none is, is the least
+least_index-HasParts
+    : (i : ℕ) (negative positive : Bool) (y : Letter) (v : List Letter)
+    → HasParts i negative positive (y ∷ v)
+    → (negative ≡ true) ⊎ (positive ≡ true)
+    → least_index y v ≡ i
+least_index-HasParts i negative positive y v parts some =
+    let above = least_index-each i y v parts.at_least in
+    elim (cases_lt i (least_index y v)) [
+      | inl below ↦ elim some [
+        | inl seen ↦ absurd (both_ways _ (occurs-below_least i true y v below) (parts.negative_is ∙ seen))
+        | inr seen ↦ absurd (both_ways _ (occurs-below_least i false y v below) (parts.positive_is ∙ seen))
+      ]
+      | inr least ↦ omega (arith, above, least)
+    ]
+
+-- the sign of a word by the index that has parts
+sign_of-HasParts
+    : (i : ℕ) (negative positive : Bool) (w : List Letter)
+    → HasParts i negative positive w
+    → (negative ≡ true) ⊎ (positive ≡ true)
+    → sign_of w ≡ sign_by i negative positive
+sign_of-HasParts i negative positive [] parts some =
+    let no_negative : false ≡ negative = parts.negative_is in
+    let no_positive : false ≡ positive = parts.positive_is in
+    elim some [ inl seen ↦ cc | inr seen ↦ cc ]
+sign_of-HasParts i negative positive (y ∷ v) parts some =
+    sign_of-parts y v i negative positive (least_index-HasParts i negative positive y v parts some)
+    parts.negative_is parts.positive_is
+
+-- a sigma-positive word has a positive sign
+pub sign_of-IsSigmaPositiveAt : (i : ℕ) (w : List Letter) → IsSigmaPositiveAt i w → sign_of w ≡ Positive i
+sign_of-IsSigmaPositiveAt i w (some, each) =
+    let parts : HasParts i false true w = record {
+      at_least = each_weaker _ _ (λ x p. p.0) w each;
+      negative_is = occurs-each i true w (each_weaker _ _ (λ x p. p.1) w each);
+      positive_is = occurs-some i false w some;
+    } in
+    sign_of-HasParts i false true w parts (inr refl)
+
+-- a sigma-negative word has a negative sign
+pub sign_of-IsSigmaNegativeAt : (i : ℕ) (w : List Letter) → IsSigmaNegativeAt i w → sign_of w ≡ Negative i
+sign_of-IsSigmaNegativeAt i w (some, each) =
+    let turned_some : SomeLetter (λ x. x ≡ letter i true) (inverse (inverse w))
+    = some_inverse _ _ (λ x here. ap opposite here) (inverse w) some in
+    let turned_each : EachLetter (λ x. (i ≤ x.index) × (x ≢ letter i false)) (inverse (inverse w))
+    = each_inverse _ _
+    (λ x both. (both.0, λ here. both.1 (sym (opposite-opposite x) ∙ ap opposite here)))
+    (inverse w) each in
+    let each_letter : EachLetter (λ x. (i ≤ x.index) × (x ≢ letter i false)) w
+    = subst (EachLetter (λ x. (i ≤ x.index) × (x ≢ letter i false))) (inverse-inverse w) turned_each in
+    let parts : HasParts i true false w = record {
+      at_least = each_weaker _ _ (λ x p. p.0) w each_letter;
+      negative_is = occurs-some i true w
+          (subst (SomeLetter (λ x. x ≡ letter i true)) (inverse-inverse w) turned_some);
+      positive_is = occurs-each i false w (each_weaker _ _ (λ x p. p.1) w each_letter);
+    } in
+    sign_of-HasParts i true false w parts (inl refl)
+
+-- a word with letters of both signs at its least index has a mixed sign
+pub sign_of-IsMixedAt : (i : ℕ) (w : List Letter) → IsMixedAt i w → sign_of w ≡ Mixed i
+sign_of-IsMixedAt i w (positive, negative, each) =
+    let parts : HasParts i true true w = record {
+      at_least = each;
+      negative_is = occurs-some i true w negative;
+      positive_is = occurs-some i false w positive;
+    } in
+    sign_of-HasParts i true true w parts (inl refl)
+
+-- ---- Both ways ----
+
+-- the sign of all letters is the sign of the word
+pub sign_of-take
+    : (s : Sign) (w : List Letter) (k : ℕ)
+    → s ≡ sign_of (take k w)
+    → length w ≤ k
+    → s ≡ sign_of w
+sign_of-take s w k is all = is ∙ ap sign_of (take_all k w all)
+
+-- a sign is positive exactly where the word is sigma-positive
+pub Positive-iff
+    : (s : Sign) (w : List Letter)
+    → s ≡ sign_of w
+    → (i : ℕ)
+    → (s ≡ Positive i) ↔ IsSigmaPositiveAt i w
+Positive-iff s w is i = (
+  λ sign. IsSigmaPositiveAt-sign_of i w (sym is ∙ sign),
+  λ positive. is ∙ sign_of-IsSigmaPositiveAt i w positive,
+)
+
+-- it is negative exactly where the word is sigma-negative
+pub Negative-iff
+    : (s : Sign) (w : List Letter)
+    → s ≡ sign_of w
+    → (i : ℕ)
+    → (s ≡ Negative i) ↔ IsSigmaNegativeAt i w
+Negative-iff s w is i = (
+  λ sign. IsSigmaNegativeAt-sign_of i w (sym is ∙ sign),
+  λ negative. is ∙ sign_of-IsSigmaNegativeAt i w negative,
+)
+
+-- it is mixed exactly where the word has letters of both signs at its least index
+pub Mixed-iff : (s : Sign) (w : List Letter) → s ≡ sign_of w → (i : ℕ) → (s ≡ Mixed i) ↔ IsMixedAt i w
+Mixed-iff s w is i = (
+  λ sign. IsMixedAt-sign_of i w (sym is ∙ sign),
+  λ mixed. is ∙ sign_of-IsMixedAt i w mixed,
+)
+
+-- it is empty exactly where the word is
+pub Empty-iff : (s : Sign) (w : List Letter) → s ≡ sign_of w → (s ≡ Empty) ↔ (w ≡ [])
+Empty-iff s w is = (λ sign. sign_of-Empty w (sym is ∙ sign), λ none. is ∙ ap sign_of none)

@@ -14,7 +14,8 @@ use Rattle.std.proofs.lemmas.Str.Parse.{digit_at}
 use Rattle.wb_base.proofs.NumberLemmas.{decimal-canonical, is_canonical-decimal, AllDigits-decimal, digits_value-of_decimal, AllDigits-list_all, list_all-AllDigits}
 use Rattle.wb_base.specs.Numbers.{sign_text}
 use Rattle.braid_word.specs.Words.{Letter, letter, IsOn}
-use Rattle.braid_word.specs.Notation.{Piece, placed_from, has_minus, without_minus, is_numeral, with_index, letter_of, letters_of, in_front, not_too_long, strict_word_of, IsReadable, letter_text, word_text}
+use Rattle.braid_word.specs.NumberNotation.{Piece, placed_from, has_minus, without_minus, is_numeral, with_index, letter_of}
+use Rattle.braid_word.specs.Notation.{letters_of, in_front, not_too_long, strict_word_of, IsReadable, letter_text, word_text}
 use Rattle.braid_word.specs.declared.TheConstants.{MAX_INDEX, MAX_LETTERS}
 use Rattle.braid_word.specs.declared.reader.WordErr.{WordErr}
 use Rattle.braid_word.specs.declared.reader.WordErr.TheVariants.{BadLetter, TooLong}
@@ -119,22 +120,43 @@ letter_of-letter_text place x low high = go x.negative
 abbrev pub AllAbove : ℕ → List ℕ → Type 0
 AllAbove n bytes = All (λ b. n < b) bytes
 
--- a minus sign is above the space
-sign_text-above : (negative : Bool) → AllAbove 32 (sign_text negative)
-sign_text-above true = All-cons (λ b. 32 < b) 45 [] (omega arith) (All-nil (λ b. 32 < b))
-sign_text-above false = All-nil (λ b. 32 < b)
+-- Each byte is above the first of these, and below the second.
+abbrev pub AllWithin : ℕ → ℕ → List ℕ → Type 0
+AllWithin m n bytes = All (λ b. (m < b) × (b < n)) bytes
+
+-- what is within is above
+AllAbove-within : (m n : ℕ) (bytes : List ℕ) → AllWithin m n bytes → AllAbove m bytes
+AllAbove-within m n bytes within =
+    All-weaker (λ b. (m < b) × (b < n)) (λ b. m < b) (λ b both. both.0) bytes within
+
+-- a minus sign is above the space, and no digit is above 9
+sign_text-within : (negative : Bool) → AllWithin 32 58 (sign_text negative)
+sign_text-within true =
+    All-cons (λ b. (32 < b) × (b < 58)) 45 [] (omega arith, omega arith)
+    (All-nil (λ b. (32 < b) × (b < 58)))
+sign_text-within false = All-nil (λ b. (32 < b) × (b < 58))
 
 -- so are digits
+decimal-within : (n : ℕ) → n < 2 ^ 64 → AllWithin 32 58 (decimal n)
+decimal-within n fits =
+    All-from_get_or (λ b. (32 < b) × (b < 58)) (decimal n) 0
+    (λ i within.
+    let digit = digit_at (decimal n) i (AllDigits-decimal n fits) within in
+    (omega (arith, digit), omega (arith, digit)))
+
+-- which are above the space
 pub decimal-above : (n : ℕ) → n < 2 ^ 64 → AllAbove 32 (decimal n)
-decimal-above n fits =
-    All-from_get_or (λ b. 32 < b) (decimal n) 0
-    (λ i within. omega (arith, digit_at (decimal n) i (AllDigits-decimal n fits) within))
+decimal-above n fits = AllAbove-within 32 58 (decimal n) (decimal-within n fits)
 
 -- so are the bytes of a letter
+letter_text-within : (x : Letter) → x.index < MAX_INDEX + 1 → AllWithin 32 58 (letter_text x)
+letter_text-within x high =
+    All-append (λ b. (32 < b) × (b < 58)) (sign_text x.negative) (decimal x.index)
+    (sign_text-within x.negative) (decimal-within x.index (omega arith))
+
+-- which are above the space
 letter_text-above : (x : Letter) → x.index < MAX_INDEX + 1 → AllAbove 32 (letter_text x)
-letter_text-above x high =
-    All-append (λ b. 32 < b) (sign_text x.negative) (decimal x.index) (sign_text-above x.negative)
-    (decimal-above x.index (omega arith))
+letter_text-above x high = AllAbove-within 32 58 (letter_text x) (letter_text-within x high)
 
 -- and are no spaces
 no_space : (bytes : List ℕ) → AllAbove 32 bytes → All (λ b. eqb b 32 ≡ false) bytes
@@ -145,7 +167,7 @@ no_space bytes above =
 -- ---- Words ----
 
 -- what a letter in front of a word comes from
-in_front-is
+pub in_front-is
     : (r : Result Letter WordErr) (s : Result (List Letter) WordErr) (w : List Letter)
     → in_front r s ≡ Ok w
     → (x : Letter) × (v : List Letter) × (r ≡ Ok x) × (s ≡ Ok v) × (x ∷ v ≡ w)
@@ -187,7 +209,7 @@ bytes_of-placed_from place (part ∷ parts) =
     ap (λ more. part ∷ more) (bytes_of-placed_from (place + length part + 1) parts)
 
 -- letters that can be read are read from their texts
-letters_of-letter_text
+pub letters_of-letter_text
     : (place : ℕ) (w : List Letter)
     → IsOn (MAX_INDEX + 1) w
     → letters_of (placed_from place (map letter_text w)) ≡ Ok w
@@ -197,7 +219,7 @@ letters_of-letter_text place (x ∷ w) on =
     (letters_of-letter_text (place + length (letter_text x) + 1) w on.1)
 
 -- the parts of the spelling of a word are the texts of its letters
-split-word_text
+pub split-word_text
     : (x : Letter) (w : List Letter)
     → IsOn (MAX_INDEX + 1) (x ∷ w)
     → split (word_text (x ∷ w)) ≡ map letter_text (x ∷ w)
@@ -211,7 +233,7 @@ split-word_text x (y ∷ w) on =
     ∙ ap (λ texts. letter_text x ∷ texts) (split-word_text y w on.1)
 
 -- a word that isn't too long stays
-not_too_long-short
+pub not_too_long-short
     : (w : List Letter)
     → length w ≤ MAX_LETTERS
     → not_too_long (Ok w) ≡ Ok w
@@ -261,7 +283,7 @@ strict_word_of-is (b ∷ bytes) w read =
     }
 
 -- the text of a letter has a byte
-length-letter_text : (x : Letter) → x.index < MAX_INDEX + 1 → 0 < length (letter_text x)
+pub length-letter_text : (x : Letter) → x.index < MAX_INDEX + 1 → 0 < length (letter_text x)
 length-letter_text x high =
     let digits : 0 < length (decimal x.index) = decimal_nonempty x.index (omega arith) in
     omega (arith, length-append (sign_text x.negative) (decimal x.index))
@@ -299,13 +321,26 @@ pub AllAbove-lower : (m n : ℕ) (bytes : List ℕ) → m ≤ n → AllAbove n b
 AllAbove-lower m n bytes lower above =
     All-weaker (λ b. n < b) (λ b. m < b) (λ b more. omega arith) bytes above
 
--- no byte of a word's spelling is below the space
-pub word_text-above : (w : List Letter) → IsOn (MAX_INDEX + 1) w → AllAbove 31 (word_text w)
+-- the bytes of a letter, as those of a whole spelling
+next-within : (x : Letter) → x.index < MAX_INDEX + 1 → AllWithin 31 58 (letter_text x)
+next-within x high =
+    All-weaker (λ b. (32 < b) × (b < 58)) (λ b. (31 < b) × (b < 58))
+    (λ b both. (omega (arith, both.0), both.1)) (letter_text x) (letter_text-within x high)
+
+-- each byte of a word's spelling is a space, a minus sign or a digit, or between them
+pub word_text-within
+    : (w : List Letter)
+    → IsOn (MAX_INDEX + 1) w
+    → AllWithin 31 58 (word_text w)
 unfolding word_text
-word_text-above [] on = All-nil (λ b. 31 < b)
-word_text-above (x ∷ []) on =
-    AllAbove-lower 31 32 (letter_text x) (omega arith) (letter_text-above x on.0.1)
-word_text-above (x ∷ (y ∷ w)) on =
-    All-append (λ b. 31 < b) (letter_text x) (32 ∷ word_text (y ∷ w))
-    (AllAbove-lower 31 32 (letter_text x) (omega arith) (letter_text-above x on.0.1))
-    (All-cons (λ b. 31 < b) 32 (word_text (y ∷ w)) (omega arith) (word_text-above (y ∷ w) on.1))
+word_text-within [] on = All-nil (λ b. (31 < b) × (b < 58))
+word_text-within (x ∷ []) on = next-within x on.0.1
+word_text-within (x ∷ (y ∷ w)) on =
+    All-append (λ b. (31 < b) × (b < 58)) (letter_text x) (32 ∷ word_text (y ∷ w))
+    (next-within x on.0.1)
+    (All-cons (λ b. (31 < b) × (b < 58)) 32 (word_text (y ∷ w)) (omega arith, omega arith)
+    (word_text-within (y ∷ w) on.1))
+
+-- none is below the space
+pub word_text-above : (w : List Letter) → IsOn (MAX_INDEX + 1) w → AllAbove 31 (word_text w)
+word_text-above w on = AllAbove-within 31 58 (word_text w) (word_text-within w on)

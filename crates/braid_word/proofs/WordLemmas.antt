@@ -3,7 +3,7 @@
 -- A fact about the letters of a word is taken apart and put together at `++` and at `inverse`. The
 -- inverse of a product is the product of the inverses, the other way round (`inverse-append`), and
 -- inverting twice changes nothing (`inverse-inverse`).
-use Rattle.std.proofs.Common.{ℕ, ◌≡◌, ◌⊎◌, inl, inr, ◌+◌, ◌≤◌, List, [], ◌∷◌, ◌++◌, refl, sym, ap, append_assoc, append-nil, map, reverse, arith}
+use Rattle.std.proofs.Common.{ℕ, ◌≡◌, ◌⊎◌, inl, inr, ◌+◌, ◌≤◌, List, [], ◌∷◌, ◌++◌, refl, sym, ap, append_assoc, append-nil, length, length-append, map, reverse, arith}
 use Rattle.std.proofs.lemmas.List.{map-append, reverse-append}
 use Rattle.std.proofs.Math.Bool.{not-not}
 use mathlib.Core.Path.{◌≡⟨◌⟩◌, ◌∎}
@@ -154,6 +154,15 @@ inverse-reverse (x ∷ u) =
 -- the inverse of a quotient is the quotient the other way round
 pub inverse-quotient : (u v : List Letter) → inverse (quotient u v) ≡ quotient v u
 inverse-quotient u v = rw (inverse-append, inverse-inverse)
+
+-- the inverse of a word is as long
+pub length-inverse : (u : List Letter) → length (inverse u) ≡ length u
+length-inverse [] = refl
+length-inverse (x ∷ u) = rw (length-append) (omega (arith, length-inverse u))
+
+-- so a quotient is as long as its words together
+pub length-quotient : (u v : List Letter) → length (quotient u v) ≡ length u + length v
+length-quotient u v = omega (arith, length-append (inverse u) v, length-inverse u)
 
 -- ---- Words ----
 

@@ -7,6 +7,7 @@
 --
 --   IsSigmaPositiveAt i w, IsSigmaNegativeAt i w    w is sigma_i-positive, sigma_i-negative
 --   IsSigmaPositive w, IsSigmaNegative w            so for some i
+--   IsMixedAt i w                                   i is the least index of w, with letters of both signs
 --   IsLess u v, IsEqual u v, IsGreater u v          the verdicts on two words
 use Rattle.std.specs.Prelude.{◌≡◌, ◌≢◌, ℕ, ◌≤◌, true, false, List, []}
 use Rattle.braid_word.specs.Words.{Letter, letter, inverse, quotient, EachLetter, SomeLetter}
@@ -30,6 +31,11 @@ IsSigmaPositive w = (i : ℕ) × IsSigmaPositiveAt i w
 -- The same for some index.
 abbrev pub IsSigmaNegative : List Letter → Type 0
 IsSigmaNegative w = (i : ℕ) × IsSigmaNegativeAt i w
+
+-- The generator of index i and its inverse both occur, and no index is lower: `3 2 -2` at 2.
+abbrev pub IsMixedAt : ℕ → List Letter → Type 0
+IsMixedAt i w =
+    SomeLetter (λ x. x ≡ letter i false) w × SomeLetter (λ x. x ≡ letter i true) w × EachLetter (λ x. i ≤ x.index) w
 
 -- ---- Verdicts ----
 

@@ -7,7 +7,8 @@
 --   occurs i e w       whether the letter of index i and sign e is in w
 --   sign_of w          the sign of w, with its least index
 --
--- That a positive, negative or empty sign is what `Order` calls so stands in `proofs/SignLemmas.antt`.
+-- A sign is positive, negative or mixed at i exactly where the word is what `Order` calls so, and empty
+-- exactly where the word is: these are clauses of `sign_of` in `src/sign.rt`.
 use Rattle.std.specs.Prelude.{ℕ, Bool, true, false, min, List, [], ◌∷◌, ◌==◌, ◌&&◌, not, if◌then◌else◌}
 use Rattle.std.specs.List.{list_any}
 use Rattle.braid_word.specs.Words.{Letter}

@@ -20,5 +20,6 @@ pub use writer::{put_letter, put_next_letter, put_word};
 /// The greatest index of a letter in a word that is read.
 pub const MAX_INDEX: u16 = 255;
 
-/// The most letters of a word that is read.
+/// The most letters of a word that is read. Where a trace is checked, also of the quotient and of the word
+/// after each step.
 pub const MAX_LETTERS: usize = 100_000;

@@ -1,9 +1,11 @@
-ghost use Rattle.std.specs.Prelude.{◌≡◌, ◌<◌, ◌+◌, List, [], ◌∷◌, ◌++◌, take, SomeIff, OnOk};
-ghost use Rattle.std.specs.List.{list_all};
+ghost use Rattle.std.specs.Prelude.{◌≡◌, ◌<◌, ◌+◌, ◌==◌, not, List, [], ◌∷◌, ◌++◌, take, length, Ok, IfOk, SomeIff, OnOk};
+ghost use Rattle.std.specs.List.{list_all, find};
 ghost use Rattle.std.specs.Char.{is_ascii_digit};
 ghost use Rattle.std.specs.Str.Parse.{digits_value, AllDigits};
 ghost use Rattle.braid_word.specs.Words.{Letter as Signed};
-ghost use Rattle.braid_word.specs.Notation.{Gives, has_minus, without_minus, is_numeral, is_piece, letter_of, strict_word_of, word_by, word_of};
+ghost use Rattle.braid_word.specs.NumberNotation.{has_minus, without_minus, is_numeral, letter_of};
+ghost use Rattle.braid_word.specs.LetterNotation.{first_byte, is_lettered, letter_of_byte};
+ghost use Rattle.braid_word.specs.Notation.{Gives, IsReadable, is_piece, letters_word_of, not_too_long, number_word_of, strict_word_of, word_by, word_of, word_text};
 ghost use Rattle.braid_word.specs.declared.reader.WordErr.TheVariants.{Memory};
 
 use crate::letter::Letter;
@@ -105,6 +107,19 @@ fn keep(letters: &mut Vec<Letter>, letter: Letter) -> Result<(), AllocError>
     Ok(())
 }
 
+// The word of all letters that were read and counted, of which these were kept.
+fn finish(letters: Vec<Letter>, count: u64) -> Result<Word, WordErr>
+    ensures { (w : List Signed)
+        → letters.items ≡ take MAX_LETTERS w
+        → count ≡ length w
+        → Gives result (not_too_long (Ok w)) }
+{
+    if count > MAX_LETTERS as u64 {
+        return Err(WordErr::TooLong { count });
+    }
+    Ok(Word::of(letters))
+}
+
 // Whether a part is to be a letter: each in a strict reading, else one that isn't empty.
 fn is_piece(part: &[u8], strict: bool) -> bool
     ensures { result ≡ is_piece strict part.now }
@@ -128,32 +143,112 @@ fn read_parts(alloc: Global, bytes: &[u8], strict: bool) -> Result<Word, WordErr
         }
         place += part.len() as u64 + 1;
     }
-    if count > MAX_LETTERS as u64 {
-        return Err(WordErr::TooLong { count });
-    }
-    Ok(Word::of(letters))
+    finish(letters, count)
 }
 
-/// Reads a line in number notation: pieces between spaces, each a letter.
-///
-/// The first piece that is no letter, or has an index of 0 or above 255, is the answer; without one,
-/// more than 100,000 pieces are.
-#[tactic(auto, unfolding(crate::specs::Notation::word_of, crate::specs::Notation::word_by))]
-pub fn read_word(alloc: Global, bytes: &[u8]) -> Result<Word, WordErr>
+// The letter that a byte is, which stands at this place.
+fn letter_of_byte(byte: u8, place: u64) -> Result<Letter, WordErr>
+    ensures { result ≡ letter_of_byte place byte }
+{
+    let (first, negative) = match byte {
+        b'a'..=b'y' => (b'a', false),
+        b'A'..=b'Y' => (b'A', true),
+        _ => return Err(WordErr::BadLetter { place }),
+    };
+    let index = u16::from(byte - first) + 1;
+    Ok(Letter { index, negative })
+}
+
+// Reads the bytes of a line but for its spaces, each a letter.
+fn read_bytes(alloc: Global, bytes: &[u8]) -> Result<Word, WordErr>
+    ensures { Gives result (letters_word_of bytes.now) }
+{
+    let mut letters = Vec::new(alloc);
+    let mut count: u64 = 0;
+    let mut place: u64 = 0;
+    for byte in bytes {
+        place += 1;
+        if *byte != b' ' {
+            let letter = letter_of_byte(*byte, place)?;
+            keep(&mut letters, letter)?;
+            count += 1;
+        }
+    }
+    finish(letters, count)
+}
+
+// The first byte that isn't a space.
+fn first_byte(bytes: &[u8]) -> Option<u8>
+    ensures { result ≡ first_byte bytes.now }
+{
+    bytes.iter().copied().find(|byte| *byte != b' ')
+}
+
+// Whether a line is in letter notation.
+fn is_lettered(bytes: &[u8]) -> bool
+    ensures { result ≡ is_lettered bytes.now }
+{
+    match first_byte(bytes) {
+        Some(byte) => byte.is_ascii_alphabetic(),
+        None => false,
+    }
+}
+
+// Reads a line in either notation.
+#[tactic(auto, unfolding(crate::specs::Notation::word_of, crate::specs::Notation::number_word_of, crate::specs::Notation::word_by))]
+fn read_either(alloc: Global, bytes: &[u8]) -> Result<Word, WordErr>
     ensures { Gives result (word_of bytes.now) }
 {
-    read_parts(alloc, bytes, false)
+    if is_lettered(bytes) {
+        read_bytes(alloc, bytes)
+    } else {
+        read_parts(alloc, bytes, false)
+    }
 }
 
-/// Reads a line in the strict spelling: letters with one space between them, and none elsewhere.
-///
-/// No bytes are the empty word. The refusals are those of [`read_word`], but that an empty piece is no
-/// letter: it is refused at the place where it would begin.
-pub fn read_strict_word(alloc: Global, bytes: &[u8]) -> Result<Word, WordErr>
+// Reads a line in the strict spelling.
+fn read_strictly(alloc: Global, bytes: &[u8]) -> Result<Word, WordErr>
     ensures { Gives result (strict_word_of bytes.now) }
 {
     if bytes.is_empty() {
         return Ok(Word::new(alloc));
     }
     read_parts(alloc, bytes, true)
+}
+
+/// Reads a line in number notation, as `1 -2`, or in letter notation, as `aB`: the latter where its first
+/// byte that isn't a space is one of `A` to `Z` or `a` to `z`.
+///
+/// A piece is a longest run of bytes that aren't spaces, and in letter notation one such byte, where `a` to
+/// `y` are the indices 1 to 25 and `A` to `Y` their inverses. The first piece that is no letter, or has an
+/// index of 0 or above 255, is the answer; without one, more than 100,000 pieces are. A line of spaces is
+/// the empty word.
+pub fn read_word(alloc: Global, bytes: &[u8]) -> Result<Word, WordErr>
+    // What is read has no more letters and no greater index than may be.
+    ensures readable { IfOk result IsReadable }
+
+    // A word's spelling is read as that word, unless memory runs out.
+    ensures only { (w : List Signed) → IsReadable w → bytes.now ≡ word_text w → Gives result (Ok w) }
+
+    // Why it is refused.
+    ensures exact { Gives result (word_of bytes.now) }
+{
+    read_either(alloc, bytes)
+}
+
+/// Reads a line in the strict spelling: numbers with one space between them, and none elsewhere.
+///
+/// No bytes are the empty word. The refusals are those of [`read_word`] for numbers, but that an empty piece
+/// is no letter: it is refused at the place where it would begin.
+pub fn read_strict_word(alloc: Global, bytes: &[u8]) -> Result<Word, WordErr>
+    // What is read is spelled so.
+    ensures text { IfOk result (λ w. (bytes.now ≡ word_text w) × IsReadable w) }
+
+    // What is spelled so is read, unless memory runs out.
+    ensures only { (w : List Signed) → IsReadable w → bytes.now ≡ word_text w → Gives result (Ok w) }
+
+    // Why it is refused.
+    ensures exact { Gives result (strict_word_of bytes.now) }
+{
+    read_strictly(alloc, bytes)
 }

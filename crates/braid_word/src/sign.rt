@@ -1,5 +1,6 @@
-ghost use Rattle.std.specs.Prelude.{◌≡◌, ◌⊎◌, List, [], ◌∷◌, ◌++◌, MatchOption};
+ghost use Rattle.std.specs.Prelude.{◌≡◌, ◌↔◌, ◌⊎◌, ℕ, List, [], ◌∷◌, ◌++◌, MatchOption};
 ghost use Rattle.braid_word.specs.Words.{Letter as Signed};
+ghost use Rattle.braid_word.specs.Order.{IsSigmaPositiveAt, IsSigmaNegativeAt, IsMixedAt};
 ghost use Rattle.braid_word.specs.Sign.{sign_of};
 
 use crate::letter::Letter;
@@ -60,7 +61,11 @@ impl Sign {
 
 /// The sign of a word, with its least index.
 pub fn sign_of(letters: &[Letter]) -> Sign
-    ensures { result ≡ sign_of letters.now }
+    ensures value { result ≡ sign_of letters.now }
+    ensures positive { (i : ℕ) → (result ≡ Sign.Positive i) ↔ IsSigmaPositiveAt i letters.now }
+    ensures negative { (i : ℕ) → (result ≡ Sign.Negative i) ↔ IsSigmaNegativeAt i letters.now }
+    ensures mixed { (i : ℕ) → (result ≡ Sign.Mixed i) ↔ IsMixedAt i letters.now }
+    ensures empty { (result ≡ Sign.Empty) ↔ (letters.now ≡ []) }
 {
     let mut sign = Sign::Empty;
     for letter in letters {

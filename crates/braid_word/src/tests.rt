@@ -22,10 +22,11 @@ fn answer(alloc: Global, read: Result<Word, WordErr>) -> Result<Vec<u8>, Fail> {
 }
 
 #[test]
-fn reads_words_and_answers_the_first_fault(rt: HostRuntime) -> Result<(), Fail> {
+fn reads_numbers_and_answers_the_first_fault(rt: HostRuntime) -> Result<(), Fail> {
     for (line, want) in [
         ("1 -2 3", "1 -2 3"),
         ("", ""),
+        ("   ", ""),
         ("  1  2 ", "1 2"),
         ("255 -255", "255 -255"),
         ("02", "no letter at byte 1"),
@@ -39,6 +40,30 @@ fn reads_words_and_answers_the_first_fault(rt: HostRuntime) -> Result<(), Fail> 
             "an index out of range at byte 1",
         ),
         ("1 x 300", "no letter at byte 3"),
+        ("1 300 x", "an index out of range at byte 3"),
+        ("1a", "no letter at byte 1"),
+        ("-a", "no letter at byte 1"),
+        ("  1 b", "no letter at byte 5"),
+        ("\t1", "no letter at byte 1"),
+    ] {
+        let got = answer(rt.alloc(), read_word(rt.alloc(), line.as_bytes()))?;
+        assert_eq!(rt; got.as_slice(), want.as_bytes(), "of {line:?}");
+    }
+    Ok(())
+}
+
+#[test]
+fn reads_letters_of_the_alphabet_and_answers_the_first_fault(rt: HostRuntime) -> Result<(), Fail> {
+    for (line, want) in [
+        ("aB", "1 -2"),
+        (" a b ", "1 2"),
+        ("  yY   a", "25 -25 1"),
+        ("z", "no letter at byte 1"),
+        ("Z", "no letter at byte 1"),
+        ("ab1", "no letter at byte 3"),
+        ("  a Zz", "no letter at byte 5"),
+        ("a -2", "no letter at byte 3"),
+        ("a\tb", "no letter at byte 2"),
     ] {
         let got = answer(rt.alloc(), read_word(rt.alloc(), line.as_bytes()))?;
         assert_eq!(rt; got.as_slice(), want.as_bytes(), "of {line:?}");
@@ -56,6 +81,7 @@ fn reads_the_strict_spelling_and_no_other(rt: HostRuntime) -> Result<(), Fail> {
         ("1 ", "no letter at byte 3"),
         ("1  2", "no letter at byte 3"),
         ("1 256", "an index out of range at byte 3"),
+        ("aB", "no letter at byte 1"),
     ] {
         let got = answer(rt.alloc(), read_strict_word(rt.alloc(), line.as_bytes()))?;
         assert_eq!(rt; got.as_slice(), want.as_bytes(), "of {line:?}");
@@ -111,13 +137,20 @@ fn makes_words_of_letters(rt: HostRuntime) -> Result<(), Fail> {
 #[test]
 fn reads_a_hundred_thousand_letters_and_no_more(rt: HostRuntime) -> Result<(), Fail> {
     let alloc = rt.alloc();
-    let mut line = Vec::new(alloc);
-    for _ in 0..MAX_LETTERS {
-        line.extend_from_slice(b"1 ")?;
+    for (letter, last, want) in [
+        ("1 ", "2", "100001 letters"),
+        ("a", "B", "100001 letters"),
+        ("1 ", "x", "no letter at byte 200001"),
+        ("a", "z", "no letter at byte 100001"),
+    ] {
+        let mut line = Vec::new(alloc);
+        for _ in 0..MAX_LETTERS {
+            line.extend_from_slice(letter.as_bytes())?;
+        }
+        assert_eq!(rt; read_word(alloc, &line)?.letters().len(), MAX_LETTERS);
+        line.extend_from_slice(last.as_bytes())?;
+        let got = answer(alloc, read_word(alloc, &line))?;
+        assert_eq!(rt; got.as_slice(), want.as_bytes(), "with {last:?} at the end");
     }
-    assert_eq!(rt; read_word(alloc, &line)?.letters().len(), MAX_LETTERS);
-    line.push(b'2')?;
-    let longer = answer(alloc, read_word(alloc, &line))?;
-    assert_eq!(rt; longer.as_slice(), b"100001 letters".as_slice());
     Ok(())
 }

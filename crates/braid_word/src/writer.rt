@@ -1,4 +1,4 @@
-ghost use Rattle.std.specs.Prelude.{◌≡◌, ◌∷◌, ◌++◌};
+ghost use Rattle.std.specs.Prelude.{◌≡◌, ◌+◌, ◌≤◌, ◌∷◌, ◌++◌, length};
 ghost use Rattle.std.specs.List.{flat_map};
 ghost use Rattle.wb_base.specs.Streams.{HasCause, Puts};
 ghost use Rattle.braid_word.specs.Notation.{letter_text, next_text, word_text};
@@ -10,6 +10,7 @@ use wb_base::{Failed, Sink, give_all, put_signed};
 pub fn put_letter<K: Sink>(sink: &mut K, letter: Letter) -> Result<(), Failed>
     ensures took { Puts (K.taken sink.old) (K.taken sink.new) result (letter_text letter) }
     ensures cause { HasCause (K.faults sink.old) (K.faults sink.new) result }
+    ensures waits { K.waiting sink.new ≤ K.waiting sink.old + length (letter_text letter) }
 {
     put_signed(sink, letter.negative, u64::from(letter.index))
 }
@@ -18,6 +19,7 @@ pub fn put_letter<K: Sink>(sink: &mut K, letter: Letter) -> Result<(), Failed>
 pub fn put_next_letter<K: Sink>(sink: &mut K, letter: Letter) -> Result<(), Failed>
     ensures took { Puts (K.taken sink.old) (K.taken sink.new) result (next_text letter) }
     ensures cause { HasCause (K.faults sink.old) (K.faults sink.new) result }
+    ensures waits { K.waiting sink.new ≤ K.waiting sink.old + length (next_text letter) }
 {
     give_all(sink, b" ")?;
     put_letter(sink, letter)
@@ -27,6 +29,7 @@ pub fn put_next_letter<K: Sink>(sink: &mut K, letter: Letter) -> Result<(), Fail
 fn put_rest<K: Sink>(sink: &mut K, letters: &[Letter]) -> Result<(), Failed>
     ensures took { Puts (K.taken sink.old) (K.taken sink.new) result (flat_map next_text letters.now) }
     ensures cause { HasCause (K.faults sink.old) (K.faults sink.new) result }
+    ensures waits { K.waiting sink.new ≤ K.waiting sink.old + length (flat_map next_text letters.now) }
 {
     for letter in letters {
         put_next_letter(sink, *letter)?;
@@ -38,6 +41,7 @@ fn put_rest<K: Sink>(sink: &mut K, letters: &[Letter]) -> Result<(), Failed>
 pub fn put_word<K: Sink>(sink: &mut K, letters: &[Letter]) -> Result<(), Failed>
     ensures took { Puts (K.taken sink.old) (K.taken sink.new) result (word_text letters.now) }
     ensures cause { HasCause (K.faults sink.old) (K.faults sink.new) result }
+    ensures waits { K.waiting sink.new ≤ K.waiting sink.old + length (word_text letters.now) }
 {
     match letters {
         [] => Ok(()),

@@ -1,6 +1,6 @@
 use Rattle.std.proofs.Common.{◌∙◌, arith}
 use Rattle.braid_word.specs.declared.TheConstants.{MAX_LETTERS}
-use Rattle.braid_word.proofs.PieceLemmas.{take-push, take-push_full}
+use Rattle.braid_word.proofs.KeptLemmas.{take-push, take-push_full}
 use Rattle.braid_word.proofs.reader.keep.Goals as goal
 
 pub returns-in_ok-push : goal.returns-in_ok-push

@@ -1,9 +1,9 @@
-use Rattle.std.proofs.Common.{rules, tests, ap, sym, ◌∙◌, ◌<◌, ◌≤◌, ◌^◌, Ok, eqb, length, arith}
+use Rattle.std.proofs.Common.{rules, tests, sym, ◌<◌, ◌≤◌, ◌^◌, eqb, length, arith}
 use Rattle.std.proofs.lemmas.List.{length_push}
 use Rattle.std.proofs.lemmas.Result.{err_from_is_err_and}
 use Rattle.std.proofs.lemmas.Iterator.Consumers.{YieldsList-at, YieldsList-turn, YieldsList-end}
 use Rattle.std.proofs.lemmas.Iterator.Splits.{YieldsList-from_slice_split}
-use Rattle.braid_word.proofs.PieceLemmas.{split, IsNext, IsRead-none, IsRead-empty, IsRead-letter, place-le, Fails-part, word_by-end, word_by-too_long}
+use Rattle.braid_word.proofs.PieceLemmas.{split, IsNext, IsRead-none, IsRead-empty, IsRead-letter, place-le, Fails-part, Gives-parts}
 use Rattle.braid_word.proofs.reader.read_parts.Goals as goal
 use Rattle.braid_word.proofs.reader.read_parts.Goals.{In-Some, In-None, then-is_piece+in_ok-letter+in_ok-keep, else-is_piece}
 
@@ -61,12 +61,7 @@ loop-part-preserved c =
           rw (w.letters-is, w.count-is) (IsRead-empty so_far next (sym w.if-is_piece.ensures))
     ])
 
-pub returns-then-count : goal.returns-then-count
-returns-then-count c =
-    let all = all_read (goal.at.returns-then-count c).In-None in
-    word_by-too_long c.loop-part.invariant all (omega arith)
-
 pub returns : goal.returns
 returns c =
     let all = all_read (goal.at.returns c).In-None in
-    word_by-end c.loop-part.invariant all (omega arith) ∙ ap Ok (sym c.of.ensures)
+    Gives-parts _ c.loop-part.invariant all c.finish.ensures

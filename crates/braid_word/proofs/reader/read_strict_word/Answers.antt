@@ -1,11 +1,13 @@
-use Rattle.std.proofs.Common.{Ok, ap, sym, ◌∙◌}
-use Rattle.braid_word.proofs.PieceLemmas.{strict_word_of-some, strict_word_of-none}
+use Rattle.std.proofs.Common.{ap, ◌∙◌, subst}
+use Rattle.braid_word.specs.Notation.{strict_word_of, Gives}
+use Rattle.braid_word.proofs.SpellingLemmas.{strict_word_of-word_text}
+use Rattle.braid_word.proofs.ReadWordLemmas.{IfOk-strict}
 use Rattle.braid_word.proofs.reader.read_strict_word.Goals as goal
 
-pub returns-then-is_empty : goal.returns-then-is_empty
-returns-then-is_empty c =
-    strict_word_of-none c.args.bytes.now (sym c.if-is_empty.ensures) ∙ ap Ok (sym c.new.ensures)
+pub returns-clause-text : goal.returns-clause-text
+returns-clause-text c = IfOk-strict c.args.bytes.now c.read_strictly.result c.read_strictly.ensures
 
-pub returns : goal.returns
-returns c =
-    rw (strict_word_of-some c.args.bytes.now (sym c.if-is_empty.ensures)) c.read_parts.ensures
+pub returns-clause-only : goal.returns-clause-only
+returns-clause-only c = λ w readable text.
+    subst (Gives c.read_strictly.result) (ap strict_word_of text ∙ strict_word_of-word_text w readable)
+    c.read_strictly.ensures

@@ -1,5 +1,6 @@
 use Rattle.std.proofs.Common.{sym}
 use Rattle.wb_base.proofs.StreamLemmas.{Puts-stopped, Puts-more, append_known-nil}
+use Rattle.wb_base.proofs.WaitingLemmas.{waits-stopped, waits-more}
 use Rattle.braid_word.proofs.NotationLemmas.{word_text-first, word_text-empty}
 use Rattle.braid_word.proofs.writer.put_word.Goals as goal
 
@@ -13,3 +14,15 @@ returns-in_ok-put_letter-in-len1-up-clause-took g c =
 
 pub returns-in-empty-clause-took : goal.returns-in-empty-clause-took
 returns-in-empty-clause-took g c = rw (word_text-empty _ c.in-empty.len_below) (sym (append_known-nil _))
+
+pub returns-in_err-put_letter-in-len1-up-clause-waits :
+    goal.returns-in_err-put_letter-in-len1-up-clause-waits
+returns-in_err-put_letter-in-len1-up-clause-waits g c =
+    waits-stopped _ _ _ _ _ (word_text-first _ _ c.in-len1-up.len_at_least c.first-item.is)
+    c.in_err-put_letter-in-len1-up.ensures.waits
+
+pub returns-in_ok-put_letter-in-len1-up-clause-waits :
+    goal.returns-in_ok-put_letter-in-len1-up-clause-waits
+returns-in_ok-put_letter-in-len1-up-clause-waits g c =
+    waits-more _ _ _ _ _ _ (word_text-first _ _ c.in-len1-up.len_at_least c.first-item.is)
+    c.in_ok-put_letter-in-len1-up.ensures.waits c.put_rest.ensures.waits
