@@ -1,5 +1,6 @@
 use Rattle.std.proofs.Common.{[], ◌∷◌, refl}
 use Rattle.wb_base.proofs.StreamLemmas.{Puts-stopped, Puts-more}
+use Rattle.wb_base.proofs.WaitingLemmas.{waits-stopped, waits-more}
 use Rattle.free_word.proofs.writer.put_next.Goals as goal
 
 pub returns-in_err-give_all-clause-took : goal.returns-in_err-give_all-clause-took
@@ -9,3 +10,11 @@ returns-in_err-give_all-clause-took g c =
 pub returns-clause-took : goal.returns-clause-took
 returns-clause-took g c =
     Puts-more _ _ _ _ _ (32 ∷ []) _ refl c.in_ok-give_all.ensures.took c.put_gen.ensures.took
+
+pub returns-in_err-give_all-clause-waits : goal.returns-in_err-give_all-clause-waits
+returns-in_err-give_all-clause-waits g c =
+    waits-stopped _ _ _ (32 ∷ []) _ refl c.in_err-give_all.ensures.waits
+
+pub returns-clause-waits : goal.returns-clause-waits
+returns-clause-waits g c =
+    waits-more _ _ _ _ (32 ∷ []) _ refl c.in_ok-give_all.ensures.waits c.put_gen.ensures.waits

@@ -1,4 +1,4 @@
-use Rattle.std.proofs.Common.{◌≡◌, ◌≤◌, take}
+use Rattle.std.proofs.Common.{◌≡◌, ◌+◌, ◌≤◌, length, take}
 use Rattle.std.specs.List.{flat_map}
 use Rattle.std.specs.Io.KnownBytes.{append_known}
 use Rattle.free_word.specs.FreeText.{next_text}
@@ -11,5 +11,6 @@ invariant-loop-x g l =
     let text = flat_map next_text (take l.x-index l.letters) in
     record {
       took : sink.taken l.sink ≡ append_known (sink.taken l.fn.sink) text;
+      waits : sink.waiting l.sink ≤ sink.waiting l.fn.sink + length text;
       later : sink.faults l.fn.sink ≤ sink.faults l.sink;
     }
