@@ -5,7 +5,7 @@
 -- isn't running after as many turns as it may make reductions (`run_after-ended`), and what its sign,
 -- its steps and its present word are. What each reduction keeps, a run keeps (`present-keeps`).
 use Rattle.std.proofs.Common.{◌≡◌, ℕ, zero, suc, ◌+◌, ◌-◌, ◌<◌, ◌≤◌, ◌==◌, ltb, Bool, true, false, cond, ◌⊎◌, List, [], ◌∷◌, ◌++◌, length, All, Option, Some, None, refl, sym, ap, ◌∙◌, inl, inr, arith, add-zero, add-suc}
-use Rattle.std.proofs.lemmas.Bool.{eqb-true, eqb-false, ltb-false, ltb-true, cond_both}
+use Rattle.std.proofs.lemmas.Bool.{eqb-true, eqb-false, lt-ltb, ltb-false, ltb-true, cond_both}
 use Rattle.std.proofs.lemmas.Option.{none-some}
 use Rattle.std.proofs.lemmas.List.{length_push}
 use Rattle.std.proofs.lemmas.List.Elements.{All-nil, All-push}
@@ -352,6 +352,18 @@ run_after-past w handles limit t past =
     let more : turns handles limit (t - handles) s ≡ run_after w handles limit t
     = rw sum at (run_after-add w handles limit handles (t - handles) s refl) in
     sym more ∙ turns-ended handles limit (t - handles) s (run_after-ended w handles limit)
+
+-- a run of a word that is too long has met the length
+pub run_after-long
+    : (w : List Letter) (handles limit t : ℕ)
+    → limit < length w
+    → (run_after w handles limit t).progress ≡ LengthMet
+unfolding run_after
+run_after-long w handles limit t long =
+    let start : RunState = begun w handles limit in
+    let stands : start.progress ≡ LengthMet = rw (lt-ltb limit (length w) long) refl in
+    let over : start.progress ≡ Running → ⊥ = λ running. absurd cc in
+    ap (λ (s : RunState). s.progress) (turns-ended handles limit t start over) ∙ stands
 
 -- a run makes no more reductions than it may
 pub length-steps
