@@ -1,3 +1,4 @@
 pub mod TraceLemmas
 pub mod FieldLemmas
 pub mod LineLaws
+pub mod TraceLaws

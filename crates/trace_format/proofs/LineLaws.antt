@@ -13,20 +13,22 @@ use Rattle.std.proofs.lemmas.List.Folds.{length-prefix_len}
 use Rattle.std.proofs.lemmas.Option.{same_Some}
 use Rattle.std.proofs.lemmas.Slice.Eq.{bytes_eq-Decides}
 use Rattle.std.proofs.Math.Seq.{take-append_seam, drop-append_seam}
+use Rattle.trace_format.specs.declared.line.Keyword.{Keyword}
+use Rattle.trace_format.specs.declared.line.Keyword.TheVariants as words
 use Rattle.trace_format.specs.declared.line.Kind.{Kind}
 use Rattle.trace_format.specs.declared.line.Kind.TheVariants as kinds
 use Rattle.trace_format.specs.declared.verdict.Verdict.TheVariants.{Less, Equal, Greater}
 use Rattle.trace_format.specs.declared.line.StepLine.{StepLine}
-use Rattle.trace_format.specs.declared.line.StepLine.TheVariants.{Handle}
+use Rattle.trace_format.specs.declared.line.StepLine.TheVariants.{Handle, Commute, Swap, Delete, Insert}
 use Rattle.trace_format.specs.declared.line.Line.{Line}
 use Rattle.trace_format.specs.declared.line.Line.TheVariants as lines
 use Rattle.trace_format.specs.declared.line.LineErr.{LineErr}
-use Rattle.trace_format.specs.TraceLines.{keyword_of, behind_keyword, kind_by, field_word, place_at, first_place, verdict_by, said, line_by, Gives, line_of, line_text, IsPlace, IsStepLine, IsLine}
+use Rattle.trace_format.specs.TraceLines.{keyword_of, behind_keyword, keyword_by, kind_named, kind_by, kind_of, field_word, place_at, only_place, two_places, place_and_letter, verdict_by, said, line_by, Gives, line_of, line_text, IsPlace, IsStepLine, IsLine}
 use Rattle.trace_format.specs.TraceText.{word_field, step_text, verdict_word}
 use Rattle.braid_word.specs.Words.{Letter}
-use Rattle.braid_word.specs.Notation.{IsReadable, word_text}
+use Rattle.braid_word.specs.Notation.{IsReadable, letter_text, next_text, word_text}
 use Rattle.braid_word.proofs.SpellingLemmas.{Ok-cond, Ok-injective, AllAbove, AllAbove-lower, decimal-above, word_text-above}
-use Rattle.trace_format.proofs.FieldLemmas.{IsBehind, field_word-is, field_word-word_field, IsBehind-word_field, places_text, first_place-is, first_place-places_text, verdict_by-is, verdict_by-verdict_word}
+use Rattle.trace_format.proofs.FieldLemmas.{IsBehind, field_word-is, field_word-word_field, IsBehind-word_field, said-Ok, places_text, insertion_text, word_text-one, only_place-is, only_place-decimal, two_places-is, two_places-places_text, place_and_letter-is, place_and_letter-insertion_text, verdict_by-is, verdict_by-verdict_word}
 
 -- ---- Keywords ----
 
@@ -99,76 +101,134 @@ behind_keyword-append word rest none behind =
     (keyword_of-append word rest none behind)
     ∙ drop-append_seam word rest
 
--- The keyword of a kind of line.
-abbrev keyword_text : Kind → List ℕ
-keyword_text kinds.Start = codes "braid-trace"
-keyword_text kinds.Left = codes "left"
-keyword_text kinds.Right = codes "right"
-keyword_text kinds.Step = codes "h"
-keyword_text kinds.Verdict = codes "verdict"
-keyword_text kinds.Witness = codes "witness"
-keyword_text kinds.Finish = codes "end"
+-- The text of a keyword.
+abbrev keyword_text : Keyword → List ℕ
+keyword_text words.Start = codes "braid-trace"
+keyword_text words.Left = codes "left"
+keyword_text words.Right = codes "right"
+keyword_text words.Handle = codes "h"
+keyword_text words.Commute = codes "c"
+keyword_text words.Swap = codes "s"
+keyword_text words.Delete = codes "d"
+keyword_text words.Insert = codes "i"
+keyword_text words.Verdict = codes "verdict"
+keyword_text words.Witness = codes "witness"
+keyword_text words.Finish = codes "end"
 
--- the keyword that names a kind is its own, where the first is and the others are
+-- a text that is a keyword is that of it, where it is the first's text or that of another
 cond-keyword
-    : (word : List ℕ) (first : Kind) (others : Option Kind) (kind : Kind)
-    → cond (bytes_eq word (keyword_text first)) (Some first) others ≡ Some kind
-    → (others ≡ Some kind → word ≡ keyword_text kind)
-    → word ≡ keyword_text kind
-cond-keyword word first others kind is else = go (bytes_eq word (keyword_text first)) refl is
+    : (text : List ℕ) (first : Keyword) (others : Option Keyword) (word : Keyword)
+    → cond (bytes_eq text (keyword_text first)) (Some first) others ≡ Some word
+    → (others ≡ Some word → text ≡ keyword_text word)
+    → text ≡ keyword_text word
+cond-keyword text first others word is else = go (bytes_eq text (keyword_text first)) refl is
   where
     go
         : (b : Bool)
-        → bytes_eq word (keyword_text first) ≡ b
-        → cond b (Some first) others ≡ Some kind
-        → word ≡ keyword_text kind
+        → bytes_eq text (keyword_text first) ≡ b
+        → cond b (Some first) others ≡ Some word
+        → text ≡ keyword_text word
     go true test named =
-        (bytes_eq-Decides word (keyword_text first)).0 test
-        ∙ ap keyword_text (same_Some first kind named)
+        (bytes_eq-Decides text (keyword_text first)).0 test
+        ∙ ap keyword_text (same_Some first word named)
     go false test named = else named
 
--- the keyword that names a kind is its own
-kind_by-is : (word : List ℕ) (kind : Kind) → kind_by word ≡ Some kind → word ≡ keyword_text kind
-kind_by-is word kind named =
-    cond-keyword word kinds.Step _ kind named
-    (λ named. cond-keyword word kinds.Start _ kind named
-    (λ named. cond-keyword word kinds.Left _ kind named
-    (λ named. cond-keyword word kinds.Right _ kind named
-    (λ named. cond-keyword word kinds.Verdict _ kind named
-    (λ named. cond-keyword word kinds.Witness _ kind named
-    (λ named. cond-keyword word kinds.Finish None kind named (λ none. absurd (cc))))))))
+-- a text that is a keyword is that of it
+keyword_by-is
+    : (text : List ℕ) (word : Keyword)
+    → keyword_by text ≡ Some word
+    → text ≡ keyword_text word
+keyword_by-is text word named =
+    cond-keyword text words.Handle _ word named
+    (λ named. cond-keyword text words.Commute _ word named
+    (λ named. cond-keyword text words.Swap _ word named
+    (λ named. cond-keyword text words.Delete _ word named
+    (λ named. cond-keyword text words.Insert _ word named
+    (λ named. cond-keyword text words.Start _ word named
+    (λ named. cond-keyword text words.Left _ word named
+    (λ named. cond-keyword text words.Right _ word named
+    (λ named. cond-keyword text words.Verdict _ word named
+    (λ named. cond-keyword text words.Witness _ word named
+    (λ named. cond-keyword text words.Finish None word named (λ none. absurd (cc))))))))))))
 
--- each kind is named by its keyword
-kind_by-keyword_text : (kind : Kind) → kind_by (keyword_text kind) ≡ Some kind
-kind_by-keyword_text kinds.Start = refl
-kind_by-keyword_text kinds.Left = refl
-kind_by-keyword_text kinds.Right = refl
-kind_by-keyword_text kinds.Step = refl
-kind_by-keyword_text kinds.Verdict = refl
-kind_by-keyword_text kinds.Witness = refl
-kind_by-keyword_text kinds.Finish = refl
+-- each keyword is known by its text
+keyword_by-keyword_text : (word : Keyword) → keyword_by (keyword_text word) ≡ Some word
+keyword_by-keyword_text words.Start = refl
+keyword_by-keyword_text words.Left = refl
+keyword_by-keyword_text words.Right = refl
+keyword_by-keyword_text words.Handle = refl
+keyword_by-keyword_text words.Commute = refl
+keyword_by-keyword_text words.Swap = refl
+keyword_by-keyword_text words.Delete = refl
+keyword_by-keyword_text words.Insert = refl
+keyword_by-keyword_text words.Verdict = refl
+keyword_by-keyword_text words.Witness = refl
+keyword_by-keyword_text words.Finish = refl
 
 -- a keyword has no space
-no_space-keyword_text : (kind : Kind) → no_space (keyword_text kind) ≡ true
-no_space-keyword_text kinds.Start = refl
-no_space-keyword_text kinds.Left = refl
-no_space-keyword_text kinds.Right = refl
-no_space-keyword_text kinds.Step = refl
-no_space-keyword_text kinds.Verdict = refl
-no_space-keyword_text kinds.Witness = refl
-no_space-keyword_text kinds.Finish = refl
+no_space-keyword_text : (word : Keyword) → no_space (keyword_text word) ≡ true
+no_space-keyword_text words.Start = refl
+no_space-keyword_text words.Left = refl
+no_space-keyword_text words.Right = refl
+no_space-keyword_text words.Handle = refl
+no_space-keyword_text words.Commute = refl
+no_space-keyword_text words.Swap = refl
+no_space-keyword_text words.Delete = refl
+no_space-keyword_text words.Insert = refl
+no_space-keyword_text words.Verdict = refl
+no_space-keyword_text words.Witness = refl
+no_space-keyword_text words.Finish = refl
 
--- a keyword and what stands behind it are a line of its kind
-line_of-append
-    : (kind : Kind) (behind : List ℕ)
+-- the keyword of a line that begins with it
+keyword_by-append
+    : (word : Keyword) (behind : List ℕ)
     → IsBehind behind
-    → line_of (keyword_text kind ++ behind) ≡ line_by (Some kind) behind
+    → keyword_by (keyword_of (keyword_text word ++ behind)) ≡ Some word
+keyword_by-append word behind spaced =
+    ap keyword_by (keyword_of-append (keyword_text word) behind (no_space-keyword_text word) spaced)
+    ∙ keyword_by-keyword_text word
+
+-- a keyword and what stands behind it are a line with this keyword
+line_of-append
+    : (word : Keyword) (behind : List ℕ)
+    → IsBehind behind
+    → line_of (keyword_text word ++ behind) ≡ line_by (Some word) behind
 unfolding line_of
-line_of-append kind behind spaced =
-    let word = keyword_text kind in
-    let none = no_space-keyword_text kind in
-    ap₂ line_by (ap kind_by (keyword_of-append word behind none spaced) ∙ kind_by-keyword_text kind)
-    (behind_keyword-append word behind none spaced)
+line_of-append word behind spaced =
+    ap₂ line_by (keyword_by-append word behind spaced)
+    (behind_keyword-append (keyword_text word) behind (no_space-keyword_text word) spaced)
+
+-- such a line is of the keyword's kind
+kind_of-append
+    : (word : Keyword) (behind : List ℕ)
+    → IsBehind behind
+    → kind_of (keyword_text word ++ behind) ≡ Some (kind_named word)
+kind_of-append word behind spaced = ap kind_by (keyword_by-append word behind spaced)
+
+-- The kind of a line, by what it says.
+abbrev pub kind_said : Line → Kind
+kind_said lines.Start = kinds.Start
+kind_said (lines.Left w) = kinds.Left
+kind_said (lines.Right w) = kinds.Right
+kind_said (lines.Step step) = kinds.Step
+kind_said (lines.Verdict v) = kinds.Verdict
+kind_said (lines.Witness w) = kinds.Witness
+kind_said lines.Finish = kinds.Finish
+
+-- the text of what a line says is a line of its kind
+pub kind_of-line_text : (l : Line) → kind_of (line_text l) ≡ Some (kind_said l)
+kind_of-line_text lines.Start = kind_of-append words.Start (codes " 1") refl
+kind_of-line_text (lines.Left w) = kind_of-append words.Left (word_field w) (IsBehind-word_field w)
+kind_of-line_text (lines.Right w) = kind_of-append words.Right (word_field w) (IsBehind-word_field w)
+kind_of-line_text (lines.Step (Handle p q)) = kind_of-append words.Handle (places_text p q) refl
+kind_of-line_text (lines.Step (Commute p)) = kind_of-append words.Commute (32 ∷ decimal p) refl
+kind_of-line_text (lines.Step (Swap p)) = kind_of-append words.Swap (32 ∷ decimal p) refl
+kind_of-line_text (lines.Step (Delete p)) = kind_of-append words.Delete (32 ∷ decimal p) refl
+kind_of-line_text (lines.Step (Insert p x)) = kind_of-append words.Insert (insertion_text p x) refl
+kind_of-line_text (lines.Verdict v) = kind_of-append words.Verdict (32 ∷ verdict_word v) refl
+kind_of-line_text (lines.Witness w) =
+    kind_of-append words.Witness (word_field w) (IsBehind-word_field w)
+kind_of-line_text lines.Finish = kind_of-append words.Finish [] tt
 
 -- ---- What is read is spelled so ----
 
@@ -177,18 +237,14 @@ pub record IsText (line : List ℕ) (l : Line) : Type 0 where
   pub text : line ≡ line_text l
   pub bounds : IsLine l
 
--- a step is its keyword and its places
-step_text-places : (step : StepLine) → codes "h" ++ places_text step ≡ step_text step
-step_text-places (Handle p q) = refl
-
 -- what is said is spelled so where what was read is
 said-is
     : {X : Type 0} (say : X → Line) (read : Result X LineErr) (line : List ℕ) (l : Line)
     → ((x : X) → read ≡ Ok x → IsText line (say x))
     → said say read ≡ Ok l
     → IsText line l
-said-is say (Ok x) line l text is = subst (IsText line) (Ok-injective _ _ is) (text x refl)
-said-is say (Err e) line l text is = absurd (cc)
+said-is say read line l text is =
+    let (x, found, same) = said-Ok say read l is in subst (IsText line) same (text x found)
 
 -- the same of a word behind a keyword
 said-field_word
@@ -206,41 +262,69 @@ said-field_word say word behind l text bounds spaced =
       bounds = bounds w field.readable;
     })
 
--- what is read of a line of a kind is spelled so
+-- the same of the one place of a step
+said-only_place
+    : (step : ℕ → StepLine) (word behind : List ℕ) (l : Line)
+    → ((p : ℕ) → step_text (step p) ≡ word ++ (32 ∷ decimal p))
+    → ((p : ℕ) → IsPlace p → IsStepLine (step p))
+    → said (λ p. lines.Step (step p)) (only_place (place_at behind)) ≡ Ok l
+    → IsText (word ++ behind) l
+said-only_place step word behind l text bounds =
+    said-is (λ p. lines.Step (step p)) (only_place (place_at behind)) (word ++ behind) l (λ p read.
+    let place = only_place-is behind p read in
+    record {
+      text = ap (λ more. word ++ more) place.text ∙ sym (text p);
+      bounds = bounds p place.place;
+    })
+
+-- what is read of a line with a keyword is spelled so
 line_by-is
-    : (kind : Kind) (behind : List ℕ) (l : Line)
+    : (word : Keyword) (behind : List ℕ) (l : Line)
     → IsBehind behind
-    → line_by (Some kind) behind ≡ Ok l
-    → IsText (keyword_text kind ++ behind) l
-line_by-is kinds.Start behind l spaced read =
+    → line_by (Some word) behind ≡ Ok l
+    → IsText (keyword_text word ++ behind) l
+line_by-is words.Start behind l spaced read =
     let (test, is) = Ok-cond _ _ _ _ read in
     let one = (bytes_eq-Decides behind (codes " 1")).0 test in
     subst (IsText (codes "braid-trace" ++ behind)) (Ok-injective _ _ is) (record {
       text = ap (λ more. codes "braid-trace" ++ more) one;
       bounds = tt;
     })
-line_by-is kinds.Left behind l spaced read =
+line_by-is words.Left behind l spaced read =
     said-field_word lines.Left (codes "left") behind l (λ w. refl) (λ w bounds. bounds)
     spaced read
-line_by-is kinds.Right behind l spaced read =
+line_by-is words.Right behind l spaced read =
     said-field_word lines.Right (codes "right") behind l (λ w. refl) (λ w bounds. bounds)
     spaced read
-line_by-is kinds.Step behind l spaced read =
-    said-is lines.Step (first_place (place_at behind)) (codes "h" ++ behind) l (λ step found.
-    let places = first_place-is behind step found in
-    record {
-      text = ap (λ more. codes "h" ++ more) places.text ∙ step_text-places step;
-      bounds = places.bounds;
-    }) read
-line_by-is kinds.Verdict behind l spaced read =
+line_by-is words.Handle behind l spaced read =
+    said-is lines.Step (two_places (place_at behind)) (codes "h" ++ behind) l (λ step found.
+    let places = two_places-is behind step found in
+    subst (λ step. IsText (codes "h" ++ behind) (lines.Step step)) places.is (record {
+      text = ap (λ more. codes "h" ++ more) places.text;
+      bounds = (places.first, places.last);
+    })) read
+line_by-is words.Commute behind l spaced read =
+    said-only_place Commute (codes "c") behind l (λ p. refl) (λ p place. place) read
+line_by-is words.Swap behind l spaced read =
+    said-only_place Swap (codes "s") behind l (λ p. refl) (λ p place. place) read
+line_by-is words.Delete behind l spaced read =
+    said-only_place Delete (codes "d") behind l (λ p. refl) (λ p place. place) read
+line_by-is words.Insert behind l spaced read =
+    said-is lines.Step (place_and_letter (place_at behind)) (codes "i" ++ behind) l (λ step found.
+    let parts = place_and_letter-is behind step found in
+    subst (λ step. IsText (codes "i" ++ behind) (lines.Step step)) parts.is (record {
+      text = ap (λ more. codes "i" ++ more) parts.text;
+      bounds = (parts.within, parts.on);
+    })) read
+line_by-is words.Verdict behind l spaced read =
     said-is lines.Verdict (verdict_by behind) (codes "verdict" ++ behind) l (λ v found. record {
       text = ap (λ more. codes "verdict" ++ more) (verdict_by-is behind v found);
       bounds = tt;
     }) read
-line_by-is kinds.Witness behind l spaced read =
+line_by-is words.Witness behind l spaced read =
     said-field_word lines.Witness (codes "witness") behind l (λ w. refl) (λ w bounds. bounds)
     spaced read
-line_by-is kinds.Finish behind l spaced read =
+line_by-is words.Finish behind l spaced read =
     let (test, is) = Ok-cond _ _ _ _ read in
     let none = nil_from_length behind (eqb-true (length behind) 0 test) in
     subst (IsText (codes "end" ++ behind)) (Ok-injective _ _ is) (record {
@@ -251,20 +335,20 @@ line_by-is kinds.Finish behind l spaced read =
 -- what is read of a line is spelled so
 pub line_of-is : (line : List ℕ) (l : Line) → line_of line ≡ Ok l → IsText line l
 unfolding line_of
-line_of-is line l read = go (kind_by (keyword_of line)) refl read
+line_of-is line l read = go (keyword_by (keyword_of line)) refl read
   where
     go
-        : (kind : Option Kind)
-        → kind_by (keyword_of line) ≡ kind
-        → line_by kind (behind_keyword line) ≡ Ok l
+        : (found : Option Keyword)
+        → keyword_by (keyword_of line) ≡ found
+        → line_by found (behind_keyword line) ≡ Ok l
         → IsText line l
     go None named is = absurd (cc)
-    go (Some kind) named is =
-        let word = kind_by-is (keyword_of line) kind named in
-        let text : keyword_text kind ++ behind_keyword line ≡ line
-        = ap (λ keyword. keyword ++ behind_keyword line) (sym word) ∙ append-behind_keyword line in
+    go (Some word) named is =
+        let own = keyword_by-is (keyword_of line) word named in
+        let text : keyword_text word ++ behind_keyword line ≡ line
+        = ap (λ keyword. keyword ++ behind_keyword line) (sym own) ∙ append-behind_keyword line in
         subst (λ line. IsText line l) text
-        (line_by-is kind (behind_keyword line) l (IsBehind-behind_keyword line) is)
+        (line_by-is word (behind_keyword line) l (IsBehind-behind_keyword line) is)
 
 -- so is what a reader answers
 pub IfOk-gives
@@ -278,23 +362,35 @@ IfOk-gives line (Err e) read = tt
 
 -- what can be said by a line is read from its text
 pub line_of-line_text : (l : Line) → IsLine l → line_of (line_text l) ≡ Ok l
-line_of-line_text lines.Start is = line_of-append kinds.Start (codes " 1") refl
+line_of-line_text lines.Start is = line_of-append words.Start (codes " 1") refl
 line_of-line_text (lines.Left w) is =
-    line_of-append kinds.Left (word_field w) (IsBehind-word_field w)
+    line_of-append words.Left (word_field w) (IsBehind-word_field w)
     ∙ ap (said lines.Left) (field_word-word_field w is)
 line_of-line_text (lines.Right w) is =
-    line_of-append kinds.Right (word_field w) (IsBehind-word_field w)
+    line_of-append words.Right (word_field w) (IsBehind-word_field w)
     ∙ ap (said lines.Right) (field_word-word_field w is)
 line_of-line_text (lines.Step (Handle p q)) is =
-    line_of-append kinds.Step (places_text (Handle p q)) refl
-    ∙ ap (said lines.Step) (first_place-places_text (Handle p q) is)
+    line_of-append words.Handle (places_text p q) refl
+    ∙ ap (said lines.Step) (two_places-places_text p q is.0 is.1)
+line_of-line_text (lines.Step (Commute p)) is =
+    line_of-append words.Commute (32 ∷ decimal p) refl
+    ∙ ap (said (λ p. lines.Step (Commute p))) (only_place-decimal p is)
+line_of-line_text (lines.Step (Swap p)) is =
+    line_of-append words.Swap (32 ∷ decimal p) refl
+    ∙ ap (said (λ p. lines.Step (Swap p))) (only_place-decimal p is)
+line_of-line_text (lines.Step (Delete p)) is =
+    line_of-append words.Delete (32 ∷ decimal p) refl
+    ∙ ap (said (λ p. lines.Step (Delete p))) (only_place-decimal p is)
+line_of-line_text (lines.Step (Insert p x)) is =
+    line_of-append words.Insert (insertion_text p x) refl
+    ∙ ap (said lines.Step) (place_and_letter-insertion_text p x is.0 is.1)
 line_of-line_text (lines.Verdict v) is =
-    line_of-append kinds.Verdict (32 ∷ verdict_word v) refl
+    line_of-append words.Verdict (32 ∷ verdict_word v) refl
     ∙ ap (said lines.Verdict) (verdict_by-verdict_word v)
 line_of-line_text (lines.Witness w) is =
-    line_of-append kinds.Witness (word_field w) (IsBehind-word_field w)
+    line_of-append words.Witness (word_field w) (IsBehind-word_field w)
     ∙ ap (said lines.Witness) (field_word-word_field w is)
-line_of-line_text lines.Finish is = line_of-append kinds.Finish [] tt
+line_of-line_text lines.Finish is = line_of-append words.Finish [] tt
 
 -- ---- A text is one line ----
 
@@ -321,15 +417,29 @@ above-append
 above-append word more all above =
     All-append (λ b. 31 < b) word more (above-list_all 31 word all) above
 
+-- a place has none
+decimal-place-above : (p : ℕ) → IsPlace p → AllAbove 31 (decimal p)
+decimal-place-above p place =
+    AllAbove-lower 31 32 (decimal p) (omega arith) (decimal-above p (omega arith))
+
 -- a step has none
 step_text-above : (step : StepLine) → IsStepLine step → AllAbove 31 (step_text step)
 step_text-above (Handle p q) bounds =
     above-append (codes "h ") (decimal p ++ (32 ∷ decimal q)) refl
-    (All-append (λ b. 31 < b) (decimal p) (32 ∷ decimal q) (digits p bounds.0)
-    (All-cons (λ b. 31 < b) 32 (decimal q) (omega arith) (digits q bounds.1)))
-  where
-    digits : (n : ℕ) → IsPlace n → AllAbove 31 (decimal n)
-    digits n place = AllAbove-lower 31 32 (decimal n) (omega arith) (decimal-above n (omega arith))
+    (All-append (λ b. 31 < b) (decimal p) (32 ∷ decimal q) (decimal-place-above p bounds.0)
+    (All-cons (λ b. 31 < b) 32 (decimal q) (omega arith) (decimal-place-above q bounds.1)))
+step_text-above (Commute p) place =
+    above-append (codes "c ") (decimal p) refl (decimal-place-above p place)
+step_text-above (Swap p) place =
+    above-append (codes "s ") (decimal p) refl (decimal-place-above p place)
+step_text-above (Delete p) place =
+    above-append (codes "d ") (decimal p) refl (decimal-place-above p place)
+step_text-above (Insert p x) bounds =
+    let letter : AllAbove 31 (letter_text x)
+    = subst (AllAbove 31) (word_text-one x) (word_text-above (x ∷ []) bounds.1) in
+    above-append (codes "i ") (decimal p ++ next_text x) refl
+    (All-append (λ b. 31 < b) (decimal p) (next_text x) (decimal-place-above p bounds.0)
+    (All-cons (λ b. 31 < b) 32 (letter_text x) (omega arith) letter))
 
 -- no byte of a line's text is below the space
 line_text-above : (l : Line) → IsLine l → AllAbove 31 (line_text l)

@@ -4,31 +4,36 @@
 -- line is, and the rest of the line has the grammar of that kind.
 -- Source: this project's own.
 --
---   keyword_of line      the keyword
---   kind_of line         the kind of line that it names, if it is a keyword
+--   keyword_of line      its first word
+--   keyword_by word      the keyword that this is, if it is one
+--   kind_of line         the kind of line that it names
 --   line_of line         what the line says, or why it says nothing
 --   line_text l          the text of what a line says
 --   IsLine l             l can be said by a line
+--   IsTrace t            t can be written and read: each of its lines can be said
 --   Gives result read    what a reader answered is what is read, unless memory ran out
-use Rattle.std.specs.Prelude.{◌≡◌, ℕ, ◌<◌, ◌&&◌, ◌==◌, nat_lt, if◌then◌else◌, List, [], ◌∷◌, ◌++◌, length, drop, codes, Option, Some, None, Result, Ok, Err}
-use Rattle.std.specs.List.{before_first}
+use Rattle.std.specs.Prelude.{◌≡◌, ℕ, ◌+◌, ◌<◌, ◌&&◌, ◌==◌, nat_lt, if◌then◌else◌, List, [], ◌∷◌, ◌++◌, length, drop, codes, Option, Some, None, Result, Ok, Err}
+use Rattle.std.specs.List.{before_first, AllByRecursion}
 use Rattle.std.specs.Str.{bytes_eq}
 use Rattle.wb_base.specs.Numbers.{number_at}
-use Rattle.braid_word.specs.Words.{Letter}
+use Rattle.braid_word.specs.Words.{Letter, IsOn}
 use Rattle.braid_word.specs.Notation.{strict_word_of, IsReadable}
+use Rattle.braid_word.specs.declared.TheConstants.{MAX_INDEX}
 use Rattle.braid_word.specs.declared.reader.WordErr.{WordErr}
 use Rattle.braid_word.specs.declared.reader.WordErr.TheVariants as word_errors
 use Rattle.trace_format.specs.declared.verdict.Verdict.{Verdict}
 use Rattle.trace_format.specs.declared.verdict.Verdict.TheVariants as verdicts
+use Rattle.trace_format.specs.declared.line.Keyword.{Keyword}
+use Rattle.trace_format.specs.declared.line.Keyword.TheVariants as words
 use Rattle.trace_format.specs.declared.line.Kind.{Kind}
 use Rattle.trace_format.specs.declared.line.Kind.TheVariants as kinds
 use Rattle.trace_format.specs.declared.line.StepLine.{StepLine}
-use Rattle.trace_format.specs.declared.line.StepLine.TheVariants.{Handle}
+use Rattle.trace_format.specs.declared.line.StepLine.TheVariants.{Handle, Commute, Swap, Delete, Insert}
 use Rattle.trace_format.specs.declared.line.Line.{Line}
 use Rattle.trace_format.specs.declared.line.Line.TheVariants as lines
 use Rattle.trace_format.specs.declared.line.LineErr.{LineErr}
 use Rattle.trace_format.specs.declared.line.LineErr.TheVariants.{Unknown, Form, Long, Memory}
-use Rattle.trace_format.specs.TraceText.{word_field, step_text, verdict_word}
+use Rattle.trace_format.specs.TraceText.{Trace, word_field, step_text, verdict_word}
 
 -- ---- Keywords ----
 
@@ -40,24 +45,48 @@ keyword_of line = before_first (λ byte. byte == 32) line
 abbrev pub behind_keyword : List ℕ → List ℕ
 behind_keyword line = drop (length (keyword_of line)) line
 
--- The kind that a keyword names.
-abbrev pub kind_by : List ℕ → Option Kind
-kind_by word =
-    if bytes_eq word (codes "h") then Some kinds.Step
-    else (if bytes_eq word (codes "braid-trace") then Some kinds.Start
-    else (if bytes_eq word (codes "left") then Some kinds.Left
-    else (if bytes_eq word (codes "right") then Some kinds.Right
-    else (if bytes_eq word (codes "verdict") then Some kinds.Verdict
-    else (if bytes_eq word (codes "witness") then Some kinds.Witness
-    else (if bytes_eq word (codes "end") then Some kinds.Finish else None))))))
+-- The keyword that a first word is. Each kind of step has its own.
+abbrev pub keyword_by : List ℕ → Option Keyword
+keyword_by word =
+    if bytes_eq word (codes "h") then Some words.Handle
+    else (if bytes_eq word (codes "c") then Some words.Commute
+    else (if bytes_eq word (codes "s") then Some words.Swap
+    else (if bytes_eq word (codes "d") then Some words.Delete
+    else (if bytes_eq word (codes "i") then Some words.Insert
+    else (if bytes_eq word (codes "braid-trace") then Some words.Start
+    else (if bytes_eq word (codes "left") then Some words.Left
+    else (if bytes_eq word (codes "right") then Some words.Right
+    else (if bytes_eq word (codes "verdict") then Some words.Verdict
+    else (if bytes_eq word (codes "witness") then Some words.Witness
+    else (if bytes_eq word (codes "end") then Some words.Finish else None))))))))))
+
+-- The kind of line that a keyword names.
+abbrev pub kind_named : Keyword → Kind
+kind_named words.Handle = kinds.Step
+kind_named words.Commute = kinds.Step
+kind_named words.Swap = kinds.Step
+kind_named words.Delete = kinds.Step
+kind_named words.Insert = kinds.Step
+kind_named words.Start = kinds.Start
+kind_named words.Left = kinds.Left
+kind_named words.Right = kinds.Right
+kind_named words.Verdict = kinds.Verdict
+kind_named words.Witness = kinds.Witness
+kind_named words.Finish = kinds.Finish
+
+-- The kind of line that is named, if there is a keyword.
+abbrev pub kind_by : Option Keyword → Option Kind
+kind_by None = None
+kind_by (Some word) = Some (kind_named word)
 
 -- The kind of a line, by its keyword.
 abbrev pub kind_of : List ℕ → Option Kind
-kind_of line = kind_by (keyword_of line)
+kind_of line = kind_by (keyword_by (keyword_of line))
 
 -- ---- The rest of a line ----
 
--- A word in its strict spelling. A word of too many letters is long; any other fault is one of form.
+-- A word in its strict spelling. A word of too many letters is long; any other fault is one of form. Want of
+-- memory has a line here for completeness: a definition never answers it.
 abbrev pub strict_result : Result (List Letter) WordErr → Result (List Letter) LineErr
 strict_result (Ok w) = Ok w
 strict_result (Err (word_errors.TooLong count)) = Err Long
@@ -82,16 +111,37 @@ abbrev pub place_at : List ℕ → Option (ℕ × List ℕ)
 place_at [] = None
 place_at (byte ∷ bytes) = if byte == 32 then placed_by bytes (number_at bytes) else None
 
--- A second place, with nothing behind it.
-abbrev pub last_place : ℕ → Option (ℕ × List ℕ) → Result StepLine LineErr
-last_place p None = Err Form
-last_place p (Some (q, [])) = Ok (Handle p q)
-last_place p (Some (q, byte ∷ bytes)) = Err Form
+-- What is made of a part that is read.
+abbrev pub said : {X Y : Type 0} → (X → Y) → Result X LineErr → Result Y LineErr
+said f (Ok x) = Ok (f x)
+said f (Err e) = Err e
 
--- Two places behind `h`.
-abbrev pub first_place : Option (ℕ × List ℕ) → Result StepLine LineErr
-first_place None = Err Form
-first_place (Some (p, bytes)) = last_place p (place_at bytes)
+-- A place, with nothing behind it.
+abbrev pub only_place : Option (ℕ × List ℕ) → Result ℕ LineErr
+only_place None = Err Form
+only_place (Some (p, [])) = Ok p
+only_place (Some (p, byte ∷ bytes)) = Err Form
+
+-- Two places behind `h`, with nothing behind them.
+abbrev pub two_places : Option (ℕ × List ℕ) → Result StepLine LineErr
+two_places None = Err Form
+two_places (Some (p, bytes)) = said (Handle p) (only_place (place_at bytes))
+
+-- The letter of a word of one letter.
+abbrev pub letter_alone : Result (List Letter) WordErr → Result Letter LineErr
+letter_alone (Ok (x ∷ [])) = Ok x
+letter_alone (Ok w) = Err Form
+letter_alone (Err e) = Err Form
+
+-- A space and then a letter in its strict spelling, with nothing behind it.
+abbrev pub only_letter : List ℕ → Result Letter LineErr
+only_letter [] = Err Form
+only_letter (byte ∷ bytes) = if byte == 32 then letter_alone (strict_word_of bytes) else Err Form
+
+-- A place and a letter behind `i`, with nothing behind them.
+abbrev pub place_and_letter : Option (ℕ × List ℕ) → Result StepLine LineErr
+place_and_letter None = Err Form
+place_and_letter (Some (p, bytes)) = said (Insert p) (only_letter bytes)
 
 -- The verdict behind its keyword.
 abbrev pub verdict_by : List ℕ → Result Verdict LineErr
@@ -100,25 +150,24 @@ verdict_by rest =
     else (if bytes_eq rest (codes " equal") then Ok verdicts.Equal
     else (if bytes_eq rest (codes " greater") then Ok verdicts.Greater else Err Form))
 
--- What a line says, by what its rest has.
-abbrev pub said : {X : Type 0} → (X → Line) → Result X LineErr → Result Line LineErr
-said l (Ok x) = Ok (l x)
-said l (Err e) = Err e
-
--- A line of this kind with this rest.
-abbrev pub line_by : Option Kind → List ℕ → Result Line LineErr
+-- A line with this keyword and this rest.
+abbrev pub line_by : Option Keyword → List ℕ → Result Line LineErr
 line_by None rest = Err Unknown
-line_by (Some kinds.Start) rest = if bytes_eq rest (codes " 1") then Ok lines.Start else Err Form
-line_by (Some kinds.Left) rest = said lines.Left (field_word rest)
-line_by (Some kinds.Right) rest = said lines.Right (field_word rest)
-line_by (Some kinds.Step) rest = said lines.Step (first_place (place_at rest))
-line_by (Some kinds.Verdict) rest = said lines.Verdict (verdict_by rest)
-line_by (Some kinds.Witness) rest = said lines.Witness (field_word rest)
-line_by (Some kinds.Finish) rest = if length rest == 0 then Ok lines.Finish else Err Form
+line_by (Some words.Start) rest = if bytes_eq rest (codes " 1") then Ok lines.Start else Err Form
+line_by (Some words.Left) rest = said lines.Left (field_word rest)
+line_by (Some words.Right) rest = said lines.Right (field_word rest)
+line_by (Some words.Handle) rest = said lines.Step (two_places (place_at rest))
+line_by (Some words.Commute) rest = said (λ p. lines.Step (Commute p)) (only_place (place_at rest))
+line_by (Some words.Swap) rest = said (λ p. lines.Step (Swap p)) (only_place (place_at rest))
+line_by (Some words.Delete) rest = said (λ p. lines.Step (Delete p)) (only_place (place_at rest))
+line_by (Some words.Insert) rest = said lines.Step (place_and_letter (place_at rest))
+line_by (Some words.Verdict) rest = said lines.Verdict (verdict_by rest)
+line_by (Some words.Witness) rest = said lines.Witness (field_word rest)
+line_by (Some words.Finish) rest = if length rest == 0 then Ok lines.Finish else Err Form
 
 -- What a line says, without its LF.
 unfoldable pub line_of : List ℕ → Result Line LineErr
-line_of line = line_by (kind_of line) (behind_keyword line)
+line_of line = line_by (keyword_by (keyword_of line)) (behind_keyword line)
 
 -- Want of memory is free; any other answer is what is read.
 abbrev pub Fails : {X : Type 0} → LineErr → Result X LineErr → Type 0
@@ -148,9 +197,13 @@ line_text lines.Finish = codes "end"
 abbrev pub IsPlace : ℕ → Type 0
 IsPlace p = (0 < p) × (p < 4294967296)
 
--- Both places are.
+-- Each place of a step is one, and its letter can be read.
 abbrev pub IsStepLine : StepLine → Type 0
 IsStepLine (Handle p q) = IsPlace p × IsPlace q
+IsStepLine (Commute p) = IsPlace p
+IsStepLine (Swap p) = IsPlace p
+IsStepLine (Delete p) = IsPlace p
+IsStepLine (Insert p x) = IsPlace p × IsOn (MAX_INDEX + 1) (x ∷ [])
 
 -- What a line can say: its words can be read, and its places are from 1 to the greatest of 32 bits.
 abbrev pub IsLine : Line → Type 0
@@ -161,3 +214,10 @@ IsLine (lines.Step step) = IsStepLine step
 IsLine (lines.Verdict v) = Unit {0}
 IsLine (lines.Witness w) = IsReadable w
 IsLine lines.Finish = Unit {0}
+
+-- The words of a trace can be read, and the places of its steps are places.
+pub record IsTrace (t : Trace) : Type 0 where
+  pub left : IsReadable t.left
+  pub right : IsReadable t.right
+  pub steps : AllByRecursion IsStepLine t.steps
+  pub witness : IsReadable t.witness

@@ -10,9 +10,9 @@ use Rattle.std.specs.Prelude.{ℕ, List, [], ◌∷◌, ◌++◌, codes, decimal
 use Rattle.std.specs.List.{flat_map}
 use Rattle.wb_base.specs.Lines.{line}
 use Rattle.braid_word.specs.Words.{Letter}
-use Rattle.braid_word.specs.Notation.{word_text}
+use Rattle.braid_word.specs.Notation.{word_text, next_text}
 use Rattle.trace_format.specs.declared.line.StepLine.{StepLine}
-use Rattle.trace_format.specs.declared.line.StepLine.TheVariants.{Handle}
+use Rattle.trace_format.specs.declared.line.StepLine.TheVariants.{Handle, Commute, Swap, Delete, Insert}
 use Rattle.trace_format.specs.declared.verdict.Verdict.{Verdict}
 use Rattle.trace_format.specs.declared.verdict.Verdict.TheVariants.{Less, Equal, Greater}
 
@@ -29,9 +29,15 @@ abbrev pub word_field : List Letter → List ℕ
 word_field [] = []
 word_field (x ∷ w) = 32 ∷ word_text (x ∷ w)
 
--- A step: the handle at two places, counted from 1 in the word before it, is `h 2 4`.
+-- A step, by its places, counted from 1 in the word before it: `h 2 4` reduces a handle, `c 2` commutes two
+-- letters, `s 2` is the braid relation on three, `d 2` deletes two that are inverse to each other, and
+-- `i 2 -1` inserts a letter and its inverse.
 abbrev pub step_text : StepLine → List ℕ
 step_text (Handle p q) = codes "h " ++ (decimal p ++ (32 ∷ decimal q))
+step_text (Commute p) = codes "c " ++ decimal p
+step_text (Swap p) = codes "s " ++ decimal p
+step_text (Delete p) = codes "d " ++ decimal p
+step_text (Insert p x) = codes "i " ++ (decimal p ++ next_text x)
 
 -- The same as a line.
 abbrev pub step_line : StepLine → List ℕ

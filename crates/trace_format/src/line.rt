@@ -1,11 +1,11 @@
 // The lines of a trace file, each by itself.
 ghost use Rattle.std.specs.Prelude.{◌≡◌, ◌==◌, Some, None, MatchOption, Ok, IfOk};
 ghost use Rattle.std.specs.List.{position};
-ghost use Rattle.trace_format.specs.TraceLines.{Gives, keyword_of, behind_keyword, kind_by, kind_of, field_word, place_at, first_place, verdict_by, line_of, line_text, IsLine};
+ghost use Rattle.trace_format.specs.TraceLines.{Gives, keyword_of, behind_keyword, keyword_by, kind_named, kind_of, field_word, place_at, only_place, two_places, only_letter, place_and_letter, verdict_by, line_of, line_text, IsLine};
 ghost use Rattle.trace_format.specs.declared.line.Line.{Line as Said};
 
 use crate::verdict::Verdict;
-use braid_word::{Word, WordErr, read_strict_word};
+use braid_word::{Letter, Word, WordErr, read_strict_word};
 use std::alloc::Global;
 use thiserror::Error;
 use wb_base::read_number;
@@ -15,6 +15,41 @@ use wb_base::read_number;
 pub enum StepLine {
     /// The letters at these two places are a handle, and are reduced.
     Handle(u32, u32),
+    /// The letters at this place and the next commute, and change places.
+    Commute(u32),
+    /// The letters at this place and the next two are one side of a braid relation, and become the other.
+    Swap(u32),
+    /// The letters at this place and the next are inverse to each other, and go.
+    Delete(u32),
+    /// This letter, and behind it its inverse, come to stand at this place and the next.
+    Insert(u32, Letter),
+}
+
+/// The first word of a line.
+#[derive(Clone, Copy, Debug, PartialEq, Eq)]
+pub enum Keyword {
+    /// `braid-trace`
+    Start,
+    /// `left`
+    Left,
+    /// `right`
+    Right,
+    /// `h`
+    Handle,
+    /// `c`
+    Commute,
+    /// `s`
+    Swap,
+    /// `d`
+    Delete,
+    /// `i`
+    Insert,
+    /// `verdict`
+    Verdict,
+    /// `witness`
+    Witness,
+    /// `end`
+    Finish,
 }
 
 /// What a line is, by its keyword.
@@ -26,7 +61,7 @@ pub enum Kind {
     Left,
     /// `right`, with the right word.
     Right,
-    /// `h`, with a step.
+    /// `h`, `c`, `s`, `d` or `i`, with a step.
     Step,
     /// `verdict`, with the verdict.
     Verdict,
@@ -88,38 +123,62 @@ fn split_keyword(line: &[u8]) -> (&[u8], &[u8])
     line.split_at(first_space(line).unwrap_or(line.len()))
 }
 
-// The kind that a keyword names.
-fn kind_by(keyword: &[u8]) -> Option<Kind>
-    ensures { result ≡ kind_by keyword.now }
+// The keyword that the first word of a line is.
+fn keyword_by(word: &[u8]) -> Option<Keyword>
+    ensures { result ≡ keyword_by word.now }
 {
-    if keyword == b"h".as_slice() {
-        Some(Kind::Step)
-    } else if keyword == b"braid-trace".as_slice() {
-        Some(Kind::Start)
-    } else if keyword == b"left".as_slice() {
-        Some(Kind::Left)
-    } else if keyword == b"right".as_slice() {
-        Some(Kind::Right)
-    } else if keyword == b"verdict".as_slice() {
-        Some(Kind::Verdict)
-    } else if keyword == b"witness".as_slice() {
-        Some(Kind::Witness)
-    } else if keyword == b"end".as_slice() {
-        Some(Kind::Finish)
+    if word == b"h".as_slice() {
+        Some(Keyword::Handle)
+    } else if word == b"c".as_slice() {
+        Some(Keyword::Commute)
+    } else if word == b"s".as_slice() {
+        Some(Keyword::Swap)
+    } else if word == b"d".as_slice() {
+        Some(Keyword::Delete)
+    } else if word == b"i".as_slice() {
+        Some(Keyword::Insert)
+    } else if word == b"braid-trace".as_slice() {
+        Some(Keyword::Start)
+    } else if word == b"left".as_slice() {
+        Some(Keyword::Left)
+    } else if word == b"right".as_slice() {
+        Some(Keyword::Right)
+    } else if word == b"verdict".as_slice() {
+        Some(Keyword::Verdict)
+    } else if word == b"witness".as_slice() {
+        Some(Keyword::Witness)
+    } else if word == b"end".as_slice() {
+        Some(Keyword::Finish)
     } else {
         None
     }
 }
 
+// The kind of line that a keyword names.
+fn kind_named(word: Keyword) -> Kind
+    ensures { result ≡ kind_named word }
+{
+    match word {
+        Keyword::Start => Kind::Start,
+        Keyword::Left => Kind::Left,
+        Keyword::Right => Kind::Right,
+        Keyword::Handle | Keyword::Commute | Keyword::Swap | Keyword::Delete | Keyword::Insert =>
+            Kind::Step,
+        Keyword::Verdict => Kind::Verdict,
+        Keyword::Witness => Kind::Witness,
+        Keyword::Finish => Kind::Finish,
+    }
+}
+
 /// What a line is, by its keyword, which ends at its first space (byte 32) or with the line.
 ///
-/// `None` where that is none of `braid-trace`, `left`, `right`, `h`, `verdict`, `witness` and `end`, in
-/// these letters.
+/// `None` where that is none of `braid-trace`, `left`, `right`, `h`, `c`, `s`, `d`, `i`, `verdict`,
+/// `witness` and `end`, in these letters.
 pub fn kind_of(line: &[u8]) -> Option<Kind>
     ensures { result ≡ kind_of line.now }
 {
-    let (keyword, _) = split_keyword(line);
-    kind_by(keyword)
+    let (word, _) = split_keyword(line);
+    Some(kind_named(keyword_by(word)?))
 }
 
 // The word behind a keyword: nothing is the empty word, and a space is followed by a word that isn't.
@@ -153,17 +212,51 @@ fn read_place(bytes: &[u8]) -> Option<(u32, &[u8])>
     }
 }
 
-// The step behind its keyword: two places, with nothing behind them.
-fn read_step(behind: &[u8]) -> Result<StepLine, LineErr>
-    ensures { result ≡ first_place (place_at behind.now) }
+// A place behind a space, with nothing behind it.
+fn read_only_place(behind: &[u8]) -> Result<u32, LineErr>
+    ensures { result ≡ only_place (place_at behind.now) }
+{
+    match read_place(behind) {
+        Some((place, [])) => Ok(place),
+        _ => Err(LineErr::Form),
+    }
+}
+
+// The step on a handle: two places, with nothing behind them.
+fn read_handle(behind: &[u8]) -> Result<StepLine, LineErr>
+    ensures { result ≡ two_places (place_at behind.now) }
 {
     let Some((start, behind)) = read_place(behind) else {
         return Err(LineErr::Form);
     };
-    match read_place(behind) {
-        Some((end, [])) => Ok(StepLine::Handle(start, end)),
-        _ => Err(LineErr::Form),
+    Ok(StepLine::Handle(start, read_only_place(behind)?))
+}
+
+// A letter behind a space, with nothing behind it.
+fn read_only_letter(alloc: Global, behind: &[u8]) -> Result<Letter, LineErr>
+    ensures { Gives result (only_letter behind.now) }
+{
+    let [b' ', bytes @ ..] = behind else {
+        return Err(LineErr::Form);
+    };
+    match read_strict_word(alloc, bytes) {
+        Ok(word) => match word.letters() {
+            [letter] => Ok(*letter),
+            _ => Err(LineErr::Form),
+        },
+        Err(WordErr::Memory) => Err(LineErr::Memory),
+        Err(_) => Err(LineErr::Form),
     }
+}
+
+// The step that inserts a letter and its inverse: a place and the letter, with nothing behind them.
+fn read_insertion(alloc: Global, behind: &[u8]) -> Result<StepLine, LineErr>
+    ensures { Gives result (place_and_letter (place_at behind.now)) }
+{
+    let Some((place, behind)) = read_place(behind) else {
+        return Err(LineErr::Form);
+    };
+    Ok(StepLine::Insert(place, read_only_letter(alloc, behind)?))
 }
 
 // The verdict behind its keyword.
@@ -181,22 +274,26 @@ fn read_verdict(behind: &[u8]) -> Result<Verdict, LineErr>
     }
 }
 
-// Reads a line by its kind.
+// Reads a line by its keyword.
 #[tactic(auto, unfolding(crate::specs::TraceLines::line_of))]
-fn read_by_kind(alloc: Global, line: &[u8]) -> Result<Line, LineErr>
+fn read_by_keyword(alloc: Global, line: &[u8]) -> Result<Line, LineErr>
     ensures { Gives result (line_of line.now) }
 {
-    let (keyword, behind) = split_keyword(line);
-    match kind_by(keyword) {
+    let (word, behind) = split_keyword(line);
+    match keyword_by(word) {
         None => Err(LineErr::Unknown),
-        Some(Kind::Start) if behind == b" 1".as_slice() => Ok(Line::Start),
-        Some(Kind::Left) => Ok(Line::Left(read_field(alloc, behind)?)),
-        Some(Kind::Right) => Ok(Line::Right(read_field(alloc, behind)?)),
-        Some(Kind::Step) => Ok(Line::Step(read_step(behind)?)),
-        Some(Kind::Verdict) => Ok(Line::Verdict(read_verdict(behind)?)),
-        Some(Kind::Witness) => Ok(Line::Witness(read_field(alloc, behind)?)),
-        Some(Kind::Finish) if behind.is_empty() => Ok(Line::Finish),
-        Some(Kind::Start | Kind::Finish) => Err(LineErr::Form),
+        Some(Keyword::Start) if behind == b" 1".as_slice() => Ok(Line::Start),
+        Some(Keyword::Left) => Ok(Line::Left(read_field(alloc, behind)?)),
+        Some(Keyword::Right) => Ok(Line::Right(read_field(alloc, behind)?)),
+        Some(Keyword::Handle) => Ok(Line::Step(read_handle(behind)?)),
+        Some(Keyword::Commute) => Ok(Line::Step(StepLine::Commute(read_only_place(behind)?))),
+        Some(Keyword::Swap) => Ok(Line::Step(StepLine::Swap(read_only_place(behind)?))),
+        Some(Keyword::Delete) => Ok(Line::Step(StepLine::Delete(read_only_place(behind)?))),
+        Some(Keyword::Insert) => Ok(Line::Step(read_insertion(alloc, behind)?)),
+        Some(Keyword::Verdict) => Ok(Line::Verdict(read_verdict(behind)?)),
+        Some(Keyword::Witness) => Ok(Line::Witness(read_field(alloc, behind)?)),
+        Some(Keyword::Finish) if behind.is_empty() => Ok(Line::Finish),
+        Some(Keyword::Start | Keyword::Finish) => Err(LineErr::Form),
     }
 }
 
@@ -215,5 +312,5 @@ pub fn read_line(alloc: Global, line: &[u8]) -> Result<Line, LineErr>
     // Why it is refused.
     ensures exact { Gives result (line_of line.now) }
 {
-    read_by_kind(alloc, line)
+    read_by_keyword(alloc, line)
 }

@@ -22,6 +22,10 @@ fn names_the_kind_of_a_line_by_its_first_word(rt: HostRuntime) -> Result<(), Fai
         ("left", Some(Kind::Left)),
         ("right x", Some(Kind::Right)),
         ("h  ", Some(Kind::Step)),
+        ("c", Some(Kind::Step)),
+        ("s 1", Some(Kind::Step)),
+        ("d", Some(Kind::Step)),
+        ("i x", Some(Kind::Step)),
         ("verdict", Some(Kind::Verdict)),
         ("witness 1", Some(Kind::Witness)),
         ("end 1", Some(Kind::Finish)),
@@ -29,6 +33,8 @@ fn names_the_kind_of_a_line_by_its_first_word(rt: HostRuntime) -> Result<(), Fai
         (" left", None),
         ("leftover", None),
         ("Left 1", None),
+        ("b 1", None),
+        ("ii 1 1", None),
     ] {
         assert_eq!(rt; kind_of(line.as_bytes()), want, "of {line:?}");
     }
@@ -56,6 +62,31 @@ fn reads_the_text_of_a_line_and_nothing_else(rt: HostRuntime) -> Result<(), Fail
         ("h 02 4", "not of the form"),
         ("h 2", "not of the form"),
         ("h 2 4 ", "not of the form"),
+        ("c 2", "Step(Commute(2))"),
+        ("s 4294967295", "Step(Swap(4294967295))"),
+        ("d 1", "Step(Delete(1))"),
+        (
+            "i 1 -3",
+            "Step(Insert(1, Letter { index: 3, negative: true }))",
+        ),
+        (
+            "i 4294967295 255",
+            "Step(Insert(4294967295, Letter { index: 255, negative: false }))",
+        ),
+        ("c 0", "not of the form"),
+        ("c 1 2", "not of the form"),
+        ("s", "not of the form"),
+        ("s 4294967296", "not of the form"),
+        ("d 01", "not of the form"),
+        ("d 1 ", "not of the form"),
+        ("i 1", "not of the form"),
+        ("i 1 ", "not of the form"),
+        ("i 1 256", "not of the form"),
+        ("i 1 0", "not of the form"),
+        ("i 1 1 2", "not of the form"),
+        ("i 1  1", "not of the form"),
+        ("i 0 1", "not of the form"),
+        ("i 1x1", "not of the form"),
         ("verdict equal", "Verdict(Equal)"),
         ("verdict lesser", "not of the form"),
         ("end", "Finish"),
@@ -72,10 +103,13 @@ fn reads_the_text_of_a_line_and_nothing_else(rt: HostRuntime) -> Result<(), Fail
 fn refuses_a_word_of_too_many_letters(rt: HostRuntime) -> Result<(), Fail> {
     let alloc = rt.alloc();
     let mut line = Vec::from_slice(alloc, b"left")?;
+    let mut step = Vec::from_slice(alloc, b"i 1")?;
     for _ in 0..=MAX_LETTERS {
         line.extend_from_slice(b" 1")?;
+        step.extend_from_slice(b" 1")?;
     }
     assert_eq!(rt; answer(alloc, &line)?.as_str(), "too long");
+    assert_eq!(rt; answer(alloc, &step)?.as_str(), "not of the form");
     line.extend_from_slice(b" 0")?;
     assert_eq!(rt; answer(alloc, &line)?.as_str(), "not of the form");
     Ok(())

@@ -1,4 +1,4 @@
-ghost use Rattle.std.specs.Prelude.{◌≡◌, ◌++◌};
+ghost use Rattle.std.specs.Prelude.{◌≡◌, ◌+◌, ◌≤◌, ◌++◌, length};
 ghost use Rattle.wb_base.specs.Lines.{line};
 ghost use Rattle.wb_base.specs.Streams.{HasCause, Puts};
 ghost use Rattle.trace_format.specs.TraceText.{word_field};
@@ -10,6 +10,7 @@ use wb_base::{Failed, Sink, give_all};
 fn put_word_field<K: Sink>(sink: &mut K, word: &[Letter]) -> Result<(), Failed>
     ensures took { Puts (K.taken sink.old) (K.taken sink.new) result (word_field word.now) }
     ensures cause { HasCause (K.faults sink.old) (K.faults sink.new) result }
+    ensures waits { K.waiting sink.new ≤ K.waiting sink.old + length (word_field word.now) }
 {
     match word {
         [] => Ok(()),
@@ -28,6 +29,7 @@ pub(crate) fn put_word_line<K: Sink>(
 ) -> Result<(), Failed>
     ensures took { Puts (K.taken sink.old) (K.taken sink.new) result (line (keyword.now ++ word_field word.now)) }
     ensures cause { HasCause (K.faults sink.old) (K.faults sink.new) result }
+    ensures waits { K.waiting sink.new ≤ K.waiting sink.old + length (line (keyword.now ++ word_field word.now)) }
 {
     give_all(sink, keyword)?;
     put_word_field(sink, word)?;

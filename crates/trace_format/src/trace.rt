@@ -1,4 +1,4 @@
-ghost use Rattle.std.specs.Prelude.{◌≡◌, ◌++◌, ◌∷◌, [], decimal, codes, map};
+ghost use Rattle.std.specs.Prelude.{◌≡◌, ◌+◌, ◌≤◌, ◌++◌, ◌∷◌, [], decimal, codes, length, map};
 ghost use Rattle.std.specs.List.{flat_map};
 ghost use Rattle.wb_base.specs.Streams.{HasCause, Puts};
 ghost use Rattle.wb_base.specs.Lines.{line};
@@ -13,6 +13,7 @@ use wb_base::{Failed, Sink, give_all, put_line, put_numbered, put_numbered_line}
 fn put_step<K: Sink>(sink: &mut K, step: (u32, u32)) -> Result<(), Failed>
     ensures took { Puts (K.taken sink.old) (K.taken sink.new) result (step_line (handle_step step)) }
     ensures cause { HasCause (K.faults sink.old) (K.faults sink.new) result }
+    ensures waits { K.waiting sink.new ≤ K.waiting sink.old + length (step_line (handle_step step)) }
 {
     let (start, end) = step;
     put_numbered(sink, b"h ", u64::from(start))?;
@@ -23,6 +24,7 @@ fn put_step<K: Sink>(sink: &mut K, step: (u32, u32)) -> Result<(), Failed>
 fn put_steps<K: Sink, A: Account>(sink: &mut K, account: &A) -> Result<(), Failed>
     ensures took { Puts (K.taken sink.old) (K.taken sink.new) result (flat_map step_line (map handle_step (A.steps account.now))) }
     ensures cause { HasCause (K.faults sink.old) (K.faults sink.new) result }
+    ensures waits { K.waiting sink.new ≤ K.waiting sink.old + length (flat_map step_line (map handle_step (A.steps account.now))) }
 {
     for k in 0..account.steps_done() {
         put_step(sink, account.step_at(k))?;
@@ -34,6 +36,7 @@ fn put_steps<K: Sink, A: Account>(sink: &mut K, account: &A) -> Result<(), Faile
 fn put_current<K: Sink, A: Account>(sink: &mut K, account: &A) -> Result<(), Failed>
     ensures took { Puts (K.taken sink.old) (K.taken sink.new) result (word_field (A.current account.now)) }
     ensures cause { HasCause (K.faults sink.old) (K.faults sink.new) result }
+    ensures waits { K.waiting sink.new ≤ K.waiting sink.old + length (word_field (A.current account.now)) }
 {
     for k in 0..account.current_len() {
         put_next_letter(sink, account.current_at(k))?;
@@ -45,6 +48,7 @@ fn put_current<K: Sink, A: Account>(sink: &mut K, account: &A) -> Result<(), Fai
 fn put_witness<K: Sink, A: Account>(sink: &mut K, account: &A) -> Result<(), Failed>
     ensures took { Puts (K.taken sink.old) (K.taken sink.new) result (line (codes "witness" ++ word_field (A.current account.now))) }
     ensures cause { HasCause (K.faults sink.old) (K.faults sink.new) result }
+    ensures waits { K.waiting sink.new ≤ K.waiting sink.old + length (line (codes "witness" ++ word_field (A.current account.now))) }
 {
     give_all(sink, b"witness")?;
     put_current(sink, account)?;
@@ -66,6 +70,7 @@ fn verdict_line(verdict: Verdict) -> &'static [u8]
 fn put_verdict<K: Sink>(sink: &mut K, verdict: Verdict) -> Result<(), Failed>
     ensures took { Puts (K.taken sink.old) (K.taken sink.new) result (line (codes "verdict " ++ verdict_word verdict)) }
     ensures cause { HasCause (K.faults sink.old) (K.faults sink.new) result }
+    ensures waits { K.waiting sink.new ≤ K.waiting sink.old + length (line (codes "verdict " ++ verdict_word verdict)) }
 {
     put_line(sink, verdict_line(verdict))
 }
@@ -74,6 +79,7 @@ fn put_verdict<K: Sink>(sink: &mut K, verdict: Verdict) -> Result<(), Failed>
 fn put_head<K: Sink>(sink: &mut K, left: &[Letter], right: &[Letter]) -> Result<(), Failed>
     ensures took { Puts (K.taken sink.old) (K.taken sink.new) result (head_text left.now right.now) }
     ensures cause { HasCause (K.faults sink.old) (K.faults sink.new) result }
+    ensures waits { K.waiting sink.new ≤ K.waiting sink.old + length (head_text left.now right.now) }
 {
     put_line(sink, b"braid-trace 1")?;
     put_word_line(sink, b"left", left)?;
@@ -84,6 +90,7 @@ fn put_head<K: Sink>(sink: &mut K, left: &[Letter], right: &[Letter]) -> Result<
 fn put_tail<K: Sink, A: Account>(sink: &mut K, account: &A, verdict: Verdict) -> Result<(), Failed>
     ensures took { Puts (K.taken sink.old) (K.taken sink.new) result (tail_text verdict (A.current account.now)) }
     ensures cause { HasCause (K.faults sink.old) (K.faults sink.new) result }
+    ensures waits { K.waiting sink.new ≤ K.waiting sink.old + length (tail_text verdict (A.current account.now)) }
 {
     put_verdict(sink, verdict)?;
     put_witness(sink, account)?;
@@ -105,6 +112,8 @@ pub fn put_trace<K: Sink, A: Account>(
     ensures took { Puts (K.taken sink.old) (K.taken sink.new) result
         (trace_text (record { left = left.now; right = right.now; steps = map handle_step (A.steps account.now); verdict = verdict; witness = A.current account.now })) }
     ensures cause { HasCause (K.faults sink.old) (K.faults sink.new) result }
+    ensures waits { K.waiting sink.new ≤ K.waiting sink.old + length
+        (trace_text (record { left = left.now; right = right.now; steps = map handle_step (A.steps account.now); verdict = verdict; witness = A.current account.now })) }
 {
     put_head(sink, left, right)?;
     put_steps(sink, account)?;

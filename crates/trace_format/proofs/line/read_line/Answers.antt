@@ -5,9 +5,9 @@ use Rattle.trace_format.proofs.line.read_line.Goals as goal
 
 pub returns-clause-text : goal.returns-clause-text
 returns-clause-text c =
-    IfOk-gives c.args.line.now c.read_by_kind.result c.read_by_kind.ensures
+    IfOk-gives c.args.line.now c.read_by_keyword.result c.read_by_keyword.ensures
 
 pub returns-clause-only : goal.returns-clause-only
 returns-clause-only c = λ l is text.
-    subst (Gives c.read_by_kind.result) (ap line_of text ∙ line_of-line_text l is)
-    c.read_by_kind.ensures
+    subst (Gives c.read_by_keyword.result) (ap line_of text ∙ line_of-line_text l is)
+    c.read_by_keyword.ensures

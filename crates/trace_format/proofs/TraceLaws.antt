@@ -1,0 +1,202 @@
+-- Laws of the text of a trace file, as its lines.
+--
+-- The text is that of its lines, one after the other (`trace_text-lines`), and is cut into these
+-- again (`lines_of-trace_text`). So two different traces have different texts
+-- (`trace_text-injective`).
+use Rattle.std.proofs.Common.{◌≡◌, ℕ, List, [], ◌∷◌, ◌++◌, append_assoc, map, flat_map, codes, refl, ap, ap₂, sym, ◌∙◌}
+use Rattle.std.specs.List.{AllByRecursion}
+use Rattle.std.proofs.lemmas.List.{append-nil}
+use Rattle.wb_base.specs.Lines.{lines_of, line}
+use Rattle.wb_base.proofs.LineLemmas.{HasNoLf, lines_of-flat_map}
+use Rattle.braid_word.specs.Words.{Letter}
+use Rattle.braid_word.proofs.SpellingLemmas.{Ok-injective}
+use Rattle.trace_format.specs.declared.verdict.Verdict.{Verdict}
+use Rattle.trace_format.specs.declared.line.StepLine.{StepLine}
+use Rattle.trace_format.specs.declared.line.Line.{Line}
+use Rattle.trace_format.specs.declared.line.Line.TheVariants as lines
+use Rattle.trace_format.specs.TraceText.{Trace, word_field, step_line, verdict_word, head_text, tail_text, trace_text}
+use Rattle.trace_format.specs.TraceLines.{line_of, line_text, IsStepLine, IsLine, IsTrace}
+use Rattle.trace_format.proofs.LineLaws.{line_of-line_text, line_text-no_lf}
+
+-- ---- The lines of a trace ----
+
+-- The lines behind the steps.
+abbrev pub tail_lines : Verdict → List Letter → List Line
+tail_lines verdict witness = lines.Verdict verdict ∷ lines.Witness witness ∷ lines.Finish ∷ []
+
+-- The lines of the steps, and those behind them.
+abbrev pub step_lines : List StepLine → List Line → List Line
+step_lines steps tail = map lines.Step steps ++ tail
+
+-- The lines of a trace, from the first to the last.
+abbrev pub trace_lines : Trace → List Line
+trace_lines t =
+    lines.Start ∷ lines.Left t.left ∷ lines.Right t.right
+    ∷ step_lines t.steps (tail_lines t.verdict t.witness)
+
+-- The texts of some lines, each with its LF.
+abbrev pub lines_text : List Line → List ℕ
+lines_text all = flat_map line (map line_text all)
+
+-- the text of steps and of the lines behind them
+lines_text-step_lines
+    : (steps : List StepLine) (tail : List Line)
+    → lines_text (step_lines steps tail) ≡ flat_map step_line steps ++ lines_text tail
+lines_text-step_lines [] tail = refl
+lines_text-step_lines (step ∷ steps) tail =
+    ap (λ more. step_line step ++ more) (lines_text-step_lines steps tail)
+    ∙ sym (append_assoc (step_line step) (flat_map step_line steps) (lines_text tail))
+
+-- three texts and what follows them
+append_assoc-three
+    : (a b c rest : List ℕ)
+    → ((a ++ b) ++ c) ++ rest ≡ a ++ (b ++ (c ++ rest))
+append_assoc-three a b c rest =
+    append_assoc (a ++ b) c rest ∙ append_assoc a b (c ++ rest)
+
+-- the text of the lines behind the steps
+lines_text-tail_lines
+    : (verdict : Verdict) (witness : List Letter)
+    → lines_text (tail_lines verdict witness) ≡ tail_text verdict witness
+lines_text-tail_lines verdict witness =
+    let shown = line (codes "verdict " ++ verdict_word verdict) in
+    let seen = line (codes "witness" ++ word_field witness) in
+    sym (append_assoc-three shown seen (line (codes "end")) [])
+    ∙ append-nil (tail_text verdict witness)
+
+-- the text of a trace is that of its lines
+pub trace_text-lines : (t : Trace) → trace_text t ≡ flat_map line (map line_text (trace_lines t))
+unfolding trace_text
+trace_text-lines t =
+    let start = line (codes "braid-trace 1") in
+    let left = line (codes "left" ++ word_field t.left) in
+    let right = line (codes "right" ++ word_field t.right) in
+    let steps = flat_map step_line t.steps in
+    let tail = tail_text t.verdict t.witness in
+    let rest : steps ++ tail ≡ lines_text (step_lines t.steps (tail_lines t.verdict t.witness))
+    = ap (λ more. steps ++ more) (sym (lines_text-tail_lines t.verdict t.witness))
+    ∙ sym (lines_text-step_lines t.steps (tail_lines t.verdict t.witness)) in
+    append_assoc (head_text t.left t.right) steps tail
+    ∙ append_assoc-three start left right (steps ++ tail)
+    ∙ ap (λ more. start ++ (left ++ (right ++ more))) rest
+
+-- ---- The text is cut into its lines ----
+
+-- steps and lines behind them can be said
+IsLine-step_lines
+    : (steps : List StepLine) (tail : List Line)
+    → AllByRecursion IsStepLine steps
+    → AllByRecursion IsLine tail
+    → AllByRecursion IsLine (step_lines steps tail)
+IsLine-step_lines [] tail is rest = rest
+IsLine-step_lines (step ∷ steps) tail is rest = (is.0, IsLine-step_lines steps tail is.1 rest)
+
+-- the lines of a trace can be said
+IsLine-trace_lines : (t : Trace) → IsTrace t → AllByRecursion IsLine (trace_lines t)
+IsLine-trace_lines t is =
+    let last = tail_lines t.verdict t.witness in
+    let tail : AllByRecursion IsLine last = (tt, (is.witness, (tt, tt))) in
+    (tt, (is.left, (is.right, IsLine-step_lines t.steps last is.steps tail)))
+
+-- no text of lines has an LF
+HasNoLf-line_text
+    : (all : List Line)
+    → AllByRecursion IsLine all
+    → AllByRecursion HasNoLf (map line_text all)
+HasNoLf-line_text [] is = tt
+HasNoLf-line_text (l ∷ all) is = (line_text-no_lf l is.0, HasNoLf-line_text all is.1)
+
+-- the lines of the text of a trace are the texts of its lines
+pub lines_of-trace_text
+    : (t : Trace)
+    → IsTrace t
+    → lines_of (trace_text t) ≡ map line_text (trace_lines t)
+lines_of-trace_text t is =
+    ap lines_of (trace_text-lines t)
+    ∙ lines_of-flat_map (map line_text (trace_lines t))
+    (HasNoLf-line_text (trace_lines t) (IsLine-trace_lines t is))
+
+-- ---- Different traces have different texts ----
+
+-- a line is known by its text
+line_text-injective
+    : (l m : Line)
+    → IsLine l
+    → IsLine m
+    → line_text l ≡ line_text m
+    → l ≡ m
+line_text-injective l m first second same =
+    Ok-injective l m
+    (sym (line_of-line_text l first) ∙ ap line_of same ∙ line_of-line_text m second)
+
+-- so are several
+map-line_text-injective
+    : (all others : List Line)
+    → AllByRecursion IsLine all
+    → AllByRecursion IsLine others
+    → map line_text all ≡ map line_text others
+    → all ≡ others
+map-line_text-injective [] [] first second same = refl
+map-line_text-injective [] (m ∷ others) first second same = absurd (cc)
+map-line_text-injective (l ∷ all) [] first second same = absurd (cc)
+map-line_text-injective (l ∷ all) (m ∷ others) first second same =
+    let head : line_text l ≡ line_text m = cc in
+    let rest : map line_text all ≡ map line_text others = cc in
+    ap₂ (λ l all. l ∷ all) (line_text-injective l m first.0 second.0 head)
+    (map-line_text-injective all others first.1 second.1 rest)
+
+-- What two traces have in common where the lines from their steps on do.
+record AreAlike (a b : List StepLine) (v w : Verdict) (x y : List Letter) : Type 0 where
+  steps : a ≡ b
+  verdict : v ≡ w
+  witness : x ≡ y
+
+-- they have steps, verdict and witness in common
+step_lines-injective
+    : (a b : List StepLine) (v w : Verdict) (x y : List Letter)
+    → step_lines a (tail_lines v x) ≡ step_lines b (tail_lines w y)
+    → AreAlike a b v w x y
+step_lines-injective [] [] v w x y same = record { steps = refl; verdict = cc; witness = cc }
+step_lines-injective [] (t ∷ b) v w x y same = absurd (cc)
+step_lines-injective (s ∷ a) [] v w x y same = absurd (cc)
+step_lines-injective (s ∷ a) (t ∷ b) v w x y same =
+    let rest = step_lines-injective a b v w x y (cc) in
+    record {
+      steps = ap₂ (λ s a. s ∷ a) (cc) rest.steps;
+      verdict = rest.verdict;
+      witness = rest.witness;
+    }
+
+-- The trace of these parts.
+abbrev trace_of : List Letter → List Letter → List StepLine → Verdict → List Letter → Trace
+trace_of left right steps verdict witness = record {
+  left = left;
+  right = right;
+  steps = steps;
+  verdict = verdict;
+  witness = witness;
+}
+
+-- a trace is known by its lines
+trace_lines-injective : (s t : Trace) → trace_lines s ≡ trace_lines t → s ≡ t
+trace_lines-injective s t same =
+    let left : s.left ≡ t.left = cc in
+    let right : s.right ≡ t.right = cc in
+    let rest = step_lines-injective s.steps t.steps s.verdict t.verdict s.witness t.witness (cc) in
+    ap₂ (λ l r. trace_of l r s.steps s.verdict s.witness) left right
+    ∙ ap₂ (λ a v. trace_of t.left t.right a v s.witness) rest.steps rest.verdict
+    ∙ ap (λ x. trace_of t.left t.right t.steps t.verdict x) rest.witness
+
+-- two different traces have different texts
+pub trace_text-injective
+    : (s t : Trace)
+    → IsTrace s
+    → IsTrace t
+    → trace_text s ≡ trace_text t
+    → s ≡ t
+trace_text-injective s t first second same =
+    let texts : map line_text (trace_lines s) ≡ map line_text (trace_lines t)
+    = sym (lines_of-trace_text s first) ∙ ap lines_of same ∙ lines_of-trace_text t second in
+    trace_lines-injective s t
+    (map-line_text-injective (trace_lines s) (trace_lines t) (IsLine-trace_lines s first)
+    (IsLine-trace_lines t second) texts)
