@@ -1,0 +1,392 @@
+-- Laws of the check of a file.
+--
+-- It claims something exactly where it is accepted: `checked_of-accepted` and `accepted-checked_of`. What
+-- it claims is then what the trace claims (`counted-claim`).
+use Rattle.std.proofs.Common.{◌≡◌, ℕ, ◌+◌, ◌-◌, ◌^◌, ◌<◌, ◌≤◌, min, List, [], ◌∷◌, ◌++◌, append_assoc, length, length-append, map, flat_map, Some, Result, Ok, Err, IfOk, refl, sym, ap, ap₂, ◌∙◌, subst, arith}
+use Rattle.std.specs.List.{AllByRecursion}
+use Rattle.std.proofs.lemmas.List.{append-nil, length-map}
+use Rattle.wb_base.specs.Streams.{one_more}
+use Rattle.wb_base.specs.Lines.{line}
+use Rattle.braid_word.specs.Words.{Letter, quotient}
+use Rattle.braid_word.specs.Notation.{IsReadable}
+use Rattle.braid_word.specs.Sign.{sign_of}
+use Rattle.braid_word.specs.declared.TheConstants.{MAX_LETTERS}
+use Rattle.trace_format.specs.declared.verdict.Verdict.{Verdict}
+use Rattle.trace_format.specs.declared.line.StepLine.{StepLine}
+use Rattle.trace_format.specs.declared.line.Line.{Line}
+use Rattle.trace_format.specs.declared.line.Line.TheVariants as lines
+use Rattle.trace_format.specs.Verdicts.{verdict_of}
+use Rattle.trace_format.specs.TraceText.{Trace, trace_text}
+use Rattle.trace_format.specs.TraceLines.{line_text, IsStepLine, IsLine, IsTrace}
+use Rattle.trace_format.proofs.LineLaws.{line_text-no_lf}
+use Rattle.trace_format.proofs.TraceLaws.{tail_lines, step_lines, trace_lines, trace_text-lines}
+use Rattle.trace_check.specs.Accepted.{IsSteps, IsAccepted, Claim, claim_of, IsValid}
+use Rattle.trace_check.specs.Cutting.{cut}
+use Rattle.trace_check.specs.Checking.{claimed, walk, checked_of, Gives}
+use Rattle.trace_check.specs.declared.checked.CheckErr.{CheckErr}
+use Rattle.trace_check.specs.declared.replay.Replay.{Replay}
+use Rattle.trace_check.specs.declared.due.Due.{Due}
+use Rattle.trace_check.specs.declared.due.Due.TheVariants as due
+use Rattle.trace_check.proofs.AcceptedLemmas.{IsValid-accepted}
+use Rattle.trace_check.proofs.VerdictLemmas.{Shows-verdict_of, verdict_of-Shows}
+use Rattle.trace_check.proofs.CuttingLemmas.{cut-line, joined, cut-is}
+use Rattle.trace_check.proofs.KeptLaws.{begun, at_word}
+use Rattle.trace_check.proofs.WalkLaws.{Leads, walk-Leads, Leads-walk}
+
+-- ---- Steps, verdict, witness and end ----
+
+-- The number of steps, counted up to the greatest of 64 bits.
+abbrev pub counted : ℕ → List StepLine → ℕ
+counted n [] = n
+counted n (step ∷ steps) = counted (one_more n) steps
+
+-- What a replay claims with these steps more.
+abbrev claim_from : Replay → List StepLine → Verdict → List Letter → Claim
+claim_from replay steps verdict witness = record {
+  left = replay.left;
+  right = replay.right;
+  verdict = verdict;
+  witness = witness;
+  steps = counted replay.steps steps;
+}
+
+-- Lines from a replay on are those of steps that lead to a witness of the verdict.
+record IsReplayed (replay : Replay) (all : List Line) (claim : Claim) : Type 0 where
+  steps : List StepLine
+  verdict : Verdict
+  witness : List Letter
+  lines_are : all ≡ step_lines steps (tail_lines verdict witness)
+  bounds : AllByRecursion IsStepLine steps
+  readable : IsReadable witness
+  leads : IsSteps replay.present steps witness
+  sign : verdict_of (sign_of witness) ≡ Some verdict
+  claims : claim ≡ claim_from replay steps verdict witness
+
+-- the end leads to what is claimed
+Leads-Passed
+    : (c : Claim) (all : List Line) (claim : Claim)
+    → Leads (due.Passed c) all claim
+    → (all ≡ []) × (claim ≡ c)
+Leads-Passed c [] claim leads = (refl, (let same : c ≡ claim = Passed-injective c claim leads in sym same))
+  where
+    Passed-injective : (c d : Claim) → due.Passed c ≡ due.Passed d → c ≡ d
+    Passed-injective c d same = cc
+Leads-Passed c (l ∷ all) claim (next, bounds, follows, leads) = absurd follows
+
+-- so does the line of the end
+Leads-Finish
+    : (replay : Replay) (verdict : Verdict) (all : List Line) (claim : Claim)
+    → Leads (due.Finish replay verdict) all claim
+    → (all ≡ lines.Finish ∷ []) × (claim ≡ claimed replay verdict)
+Leads-Finish replay verdict [] claim leads = absurd (cc)
+Leads-Finish replay verdict (lines.Finish ∷ all) claim (next, bounds, follows, leads) =
+    let (none, same) = Leads-Passed (claimed replay verdict) all claim
+    (subst (λ d. Leads d all claim) follows leads) in
+    (ap (λ rest. lines.Finish ∷ rest) none, same)
+Leads-Finish replay verdict (l ∷ all) claim (next, bounds, follows, leads) = absurd follows
+
+-- What a witness line and the end show.
+record IsShown (replay : Replay) (verdict : Verdict) (all : List Line) (claim : Claim) : Type 0 where
+  lines_are : all ≡ lines.Witness replay.present ∷ lines.Finish ∷ []
+  readable : IsReadable replay.present
+  sign : verdict_of (sign_of replay.present) ≡ Some verdict
+  claims : claim ≡ claimed replay verdict
+
+-- so do the lines of the witness and of the end
+Leads-Witness
+    : (replay : Replay) (verdict : Verdict) (all : List Line) (claim : Claim)
+    → Leads (due.Witness replay verdict) all claim
+    → IsShown replay verdict all claim
+Leads-Witness replay verdict [] claim leads = absurd (cc)
+Leads-Witness replay verdict (lines.Witness w ∷ all) claim (next, bounds, (same, sign, follows), leads) =
+    let (last, claims) = Leads-Finish replay verdict all claim
+    (subst (λ d. Leads d all claim) follows leads) in
+    record {
+      lines_are = ap₂ (λ w rest. lines.Witness w ∷ rest) same last;
+      readable = subst IsReadable same bounds;
+      sign = subst (λ w. verdict_of (sign_of w) ≡ Some verdict) same sign;
+      claims = claims;
+    }
+Leads-Witness replay verdict (l ∷ all) claim (next, bounds, follows, leads) = absurd follows
+
+-- the lines from a replay on
+Leads-Step
+    : (replay : Replay) (all : List Line) (claim : Claim)
+    → Leads (due.Step replay) all claim
+    → IsReplayed replay all claim
+Leads-Step replay [] claim leads = absurd (cc)
+Leads-Step replay (lines.Step step ∷ all) claim (next, bounds, follows, leads) =
+    let more = Leads-Step (at_word replay follows.word) all claim
+    (subst (λ d. Leads d all claim) follows.due leads) in
+    record {
+      steps = step ∷ more.steps;
+      verdict = more.verdict;
+      witness = more.witness;
+      lines_are = ap (λ rest. lines.Step step ∷ rest) more.lines_are;
+      bounds = (bounds, more.bounds);
+      readable = more.readable;
+      leads = (follows.word, follows.leads, follows.short, more.leads);
+      sign = more.sign;
+      claims = more.claims;
+    }
+Leads-Step replay (lines.Verdict verdict ∷ all) claim (next, bounds, follows, leads) =
+    let last = Leads-Witness replay verdict all claim
+    (subst (λ d. Leads d all claim) follows leads) in
+    record {
+      steps = [];
+      verdict = verdict;
+      witness = replay.present;
+      lines_are = ap (λ rest. lines.Verdict verdict ∷ rest) last.lines_are;
+      bounds = tt;
+      readable = last.readable;
+      leads = refl;
+      sign = last.sign;
+      claims = last.claims;
+    }
+Leads-Step replay (l ∷ all) claim (next, bounds, follows, leads) = absurd follows
+
+-- and back
+IsSteps-Leads
+    : (replay : Replay) (steps : List StepLine) (verdict : Verdict) (witness : List Letter)
+    → AllByRecursion IsStepLine steps
+    → IsReadable witness
+    → IsSteps replay.present steps witness
+    → verdict_of (sign_of witness) ≡ Some verdict
+    → Leads (due.Step replay) (step_lines steps (tail_lines verdict witness))
+    (claim_from replay steps verdict witness)
+IsSteps-Leads replay [] verdict witness bounds readable leads sign = (
+  due.Witness replay verdict,
+  tt,
+  refl,
+  (
+    due.Finish replay verdict,
+    readable,
+    (leads, sign, refl),
+    (
+      due.Passed (claimed replay verdict),
+      tt,
+      refl,
+      ap (λ w. due.Passed (record (claimed replay verdict) { witness = w })) (sym leads),
+    ),
+  ),
+)
+IsSteps-Leads replay (step ∷ steps) verdict witness bounds readable (word, leads, short, more) sign = (
+  due.Step (at_word replay word),
+  bounds.0,
+  record { word = word; leads = leads; short = short; due = refl },
+  IsSteps-Leads (at_word replay word) steps verdict witness bounds.1 readable more sign,
+)
+
+-- ---- A whole file ----
+
+-- What a trace claims, with its steps counted up to the greatest of 64 bits.
+abbrev pub counted_claim : Trace → Claim
+counted_claim t = record (claim_of t) { steps = counted 0 t.steps }
+
+-- The lines of a file that claims something are those of a trace that is accepted.
+record IsTraced (all : List Line) (claim : Claim) : Type 0 where
+  trace : Trace
+  lines_are : all ≡ trace_lines trace
+  bounds : IsTrace trace
+  short : length (quotient trace.left trace.right) ≤ MAX_LETTERS
+  steps : IsSteps (quotient trace.left trace.right) trace.steps trace.witness
+  sign : verdict_of (sign_of trace.witness) ≡ Some trace.verdict
+  claims : claim ≡ counted_claim trace
+
+-- the lines from the right word on
+Leads-Right
+    : (u : List Letter) (all : List Line) (claim : Claim)
+    → IsReadable u
+    → Leads (due.Right u) all claim
+    → IsTraced (lines.Start ∷ lines.Left u ∷ all) claim
+Leads-Right u [] claim readable leads = absurd (cc)
+Leads-Right u (lines.Right v ∷ all) claim readable (next, bounds, (short, follows), leads) =
+    let more = Leads-Step (begun u v) all claim (subst (λ d. Leads d all claim) follows leads) in
+    record {
+      trace = record {
+        left = u;
+        right = v;
+        steps = more.steps;
+        verdict = more.verdict;
+        witness = more.witness;
+      };
+      lines_are = ap (λ rest. lines.Start ∷ lines.Left u ∷ lines.Right v ∷ rest) more.lines_are;
+      bounds = record {
+        left = readable;
+        right = bounds;
+        steps = more.bounds;
+        witness = more.readable;
+      };
+      short = short;
+      steps = more.leads;
+      sign = more.sign;
+      claims = more.claims;
+    }
+Leads-Right u (l ∷ all) claim readable (next, bounds, follows, leads) = absurd follows
+
+-- from the left word on
+Leads-Left
+    : (all : List Line) (claim : Claim)
+    → Leads due.Left all claim
+    → IsTraced (lines.Start ∷ all) claim
+Leads-Left [] claim leads = absurd (cc)
+Leads-Left (lines.Left u ∷ all) claim (next, bounds, follows, leads) =
+    Leads-Right u all claim bounds (subst (λ d. Leads d all claim) follows leads)
+Leads-Left (l ∷ all) claim (next, bounds, follows, leads) = absurd follows
+
+-- from the first line on
+Leads-Start : (all : List Line) (claim : Claim) → Leads due.Start all claim → IsTraced all claim
+Leads-Start [] claim leads = absurd (cc)
+Leads-Start (lines.Start ∷ all) claim (next, bounds, follows, leads) =
+    Leads-Left all claim (subst (λ d. Leads d all claim) follows leads)
+Leads-Start (l ∷ all) claim (next, bounds, follows, leads) = absurd follows
+
+-- and back
+IsAccepted-Leads
+    : (bytes : List ℕ) (t : Trace)
+    → IsAccepted bytes t
+    → Leads due.Start (trace_lines t) (counted_claim t)
+IsAccepted-Leads bytes t is = (
+  due.Left,
+  tt,
+  refl,
+  (
+    due.Right t.left,
+    is.bounds.left,
+    refl,
+    (
+      due.Step (begun t.left t.right),
+      is.bounds.right,
+      (is.short, refl),
+      IsSteps-Leads (begun t.left t.right) t.steps t.verdict t.witness
+          is.bounds.steps is.bounds.witness is.steps (verdict_of-Shows t.verdict t.witness is.shown),
+    ),
+  ),
+)
+
+-- the texts of lines are cut into these again
+cut-lines
+    : (all : List Line)
+    → AllByRecursion IsLine all
+    → cut (flat_map line (map line_text all)) ≡ (map line_text all, [])
+cut-lines [] are = refl
+cut-lines (l ∷ all) are =
+    ap cut (append_assoc (line_text l) (10 ∷ []) (flat_map line (map line_text all)))
+    ∙ cut-line (line_text l) (flat_map line (map line_text all)) (line_text-no_lf l are.0)
+    ∙ ap (λ (r : List (List ℕ) × List ℕ). (line_text l ∷ r.0, r.1)) (cut-lines all are.1)
+
+-- lines that lead somewhere can be said
+Leads-IsLine
+    : (now : Due) (all : List Line) (claim : Claim)
+    → Leads now all claim
+    → AllByRecursion IsLine all
+Leads-IsLine now [] claim leads = tt
+Leads-IsLine now (l ∷ all) claim (next, bounds, follows, leads) =
+    (bounds, Leads-IsLine next all claim leads)
+
+-- a file that claims something is accepted
+pub checked_of-accepted
+    : (bytes : List ℕ) (claim : Claim)
+    → checked_of bytes ≡ Ok claim
+    → (t : Trace) × IsAccepted bytes t × (claim ≡ counted_claim t)
+unfolding checked_of
+checked_of-accepted bytes claim is =
+    let walked = walk-Leads 1 due.Start (cut bytes).0 (cut bytes).1 claim is in
+    let traced = Leads-Start walked.all claim walked.leads in
+    let text : joined (cut bytes) ≡ trace_text traced.trace
+    = ap₂ (λ ls rest. flat_map line ls ++ rest) walked.texts walked.ended
+    ∙ append-nil (flat_map line (map line_text walked.all))
+    ∙ ap (λ all. flat_map line (map line_text all)) traced.lines_are
+    ∙ sym (trace_text-lines traced.trace) in
+    let accepted : IsAccepted bytes traced.trace = record {
+      text = sym (cut-is bytes) ∙ text;
+      bounds = traced.bounds;
+      short = traced.short;
+      steps = traced.steps;
+      shown = Shows-verdict_of _ _ traced.trace.witness refl traced.sign;
+    } in
+    (traced.trace, accepted, traced.claims)
+
+-- a file that is accepted claims what its trace claims
+pub accepted-checked_of
+    : (bytes : List ℕ) (t : Trace)
+    → IsAccepted bytes t
+    → checked_of bytes ≡ Ok (counted_claim t)
+unfolding checked_of
+accepted-checked_of bytes t is =
+    let leads = IsAccepted-Leads bytes t is in
+    let parts : cut bytes ≡ (map line_text (trace_lines t), [])
+    = ap cut (is.text ∙ trace_text-lines t)
+    ∙ cut-lines (trace_lines t) (Leads-IsLine due.Start (trace_lines t) (counted_claim t) leads) in
+    ap (λ (r : List (List ℕ) × List ℕ). walk 1 due.Start r.0 r.1) parts
+    ∙ Leads-walk 1 due.Start (trace_lines t) (counted_claim t) leads
+
+-- ---- The number of steps ----
+
+-- steps are counted up to the greatest of 64 bits
+counted-min
+    : (n : ℕ) (steps : List StepLine)
+    → n ≤ 2 ^ 64 - 1
+    → counted n steps ≡ min (n + length steps) (2 ^ 64 - 1)
+counted-min n [] low = omega arith
+counted-min n (step ∷ steps) low =
+    let more = counted-min (one_more n) steps (omega arith) in omega (arith, more)
+
+-- a text has no fewer bytes than lines
+length-lines : (texts : List (List ℕ)) → length texts ≤ length (flat_map line texts)
+length-lines [] = omega arith
+length-lines (text ∷ texts) =
+    let rest = length-lines texts in
+    let first = length-append text (10 ∷ []) in
+    omega (arith, rest, first, length-append (line text) (flat_map line texts))
+
+-- a trace has no more steps than its text has bytes
+length-steps : (t : Trace) → length t.steps ≤ length (trace_text t)
+length-steps t =
+    let all = length-lines (map line_text (trace_lines t)) in
+    let text = ap length (trace_text-lines t) in
+    let tail = tail_lines t.verdict t.witness in
+    let texts = length-map (trace_lines t) line_text in
+    let steps = length-append (map lines.Step t.steps) tail in
+    let many = length-map t.steps lines.Step in
+    omega (arith, all, text, texts, steps, many)
+
+-- of a file of fewer bytes than 64 bits can count all steps are counted
+pub counted-claim
+    : (bytes : List ℕ) (t : Trace)
+    → bytes ≡ trace_text t
+    → length bytes < 2 ^ 64
+    → counted_claim t ≡ claim_of t
+counted-claim bytes t text short =
+    let steps = length-steps t in
+    let size = ap length text in
+    let all : counted 0 t.steps ≡ length t.steps
+    = counted-min 0 t.steps (omega arith) ∙ omega (arith, steps, size) in
+    ap (λ n. record (claim_of t) { steps = n }) all
+
+-- ---- What a checker answers ----
+
+-- what it claims is what an accepted trace claims, which is valid
+pub IfOk-accepted
+    : (bytes : List ℕ) (result : Result Claim CheckErr)
+    → length bytes < 2 ^ 64
+    → Gives result (checked_of bytes)
+    → IfOk result (λ claim. (t : Trace) × IsAccepted bytes t × IsValid t × (claim ≡ claim_of t))
+IfOk-accepted bytes (Ok claim) short gives =
+    let (t, accepted, claims) = checked_of-accepted bytes claim gives in
+    (t, accepted, IsValid-accepted bytes t accepted, claims ∙ counted-claim bytes t accepted.text short)
+IfOk-accepted bytes (Err e) short gives = tt
+
+-- what is accepted isn't refused
+pub Gives-accepted
+    : (bytes : List ℕ) (result : Result Claim CheckErr)
+    → length bytes < 2 ^ 64
+    → Gives result (checked_of bytes)
+    → (t : Trace)
+    → IsAccepted bytes t
+    → Gives result (Ok (claim_of t))
+Gives-accepted bytes result short gives t accepted =
+    let claims : checked_of bytes ≡ Ok (claim_of t)
+    = accepted-checked_of bytes t accepted
+    ∙ ap (λ claim. Ok claim) (counted-claim bytes t accepted.text short) in
+    subst (λ file. Gives result file) claims gives

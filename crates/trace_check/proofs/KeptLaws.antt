@@ -1,0 +1,360 @@
+-- Laws of what is due after one line.
+--
+-- A line is kept exactly where it is the text of what may be said there, and then what is due follows from
+-- that: `Follows-kept` and `kept-Follows`.
+use Rattle.std.proofs.Common.{◌≡◌, ℕ, ◌≤◌, Bool, true, false, cond, ltb, List, length, codes, Some, Result, Ok, Err, refl, sym, ap, ◌∙◌}
+use Rattle.std.specs.Str.{bytes_eq}
+use Rattle.std.proofs.lemmas.Bool.{le-ltb, ltb-false}
+use Rattle.std.proofs.lemmas.Slice.Eq.{bytes_eq-Decides}
+use Rattle.wb_base.specs.Streams.{one_more}
+use Rattle.braid_word.specs.Words.{Letter, quotient}
+use Rattle.braid_word.specs.Sign.{sign_of}
+use Rattle.braid_word.specs.declared.TheConstants.{MAX_LETTERS}
+use Rattle.braid_word.proofs.SpellingLemmas.{Ok-injective}
+use Rattle.trace_format.specs.declared.verdict.Verdict.{Verdict}
+use Rattle.trace_format.specs.declared.line.Kind.TheVariants as kinds
+use Rattle.trace_format.specs.declared.line.StepLine.{StepLine}
+use Rattle.trace_format.specs.declared.line.Line.{Line}
+use Rattle.trace_format.specs.declared.line.Line.TheVariants as lines
+use Rattle.trace_format.specs.declared.line.LineErr.{LineErr}
+use Rattle.trace_format.specs.Verdicts.{verdict_of}
+use Rattle.trace_format.specs.TraceLines.{kind_of, line_of, line_text, IsStepLine, IsLine}
+use Rattle.trace_format.proofs.LineLaws.{line_of-is, line_of-line_text, kind_of-line_text}
+use Rattle.trace_check.specs.Accepted.{IsStep}
+use Rattle.trace_check.specs.Checking.{word_eq, gives_verdict, is_kind, stepped, begun_with, claimed, moved, shown, kept_start, kept_left, kept_right, kept_step, kept_witness, kept_finish, of_kind, kept_unless_long, kept_short, kept}
+use Rattle.trace_check.specs.declared.TheConstants.{MAX_LINE}
+use Rattle.trace_check.specs.declared.checked.Why.{Why}
+use Rattle.trace_check.specs.declared.checked.Why.TheVariants.{Long, Sign, Witness}
+use Rattle.trace_check.specs.declared.replay.Replay.{Replay}
+use Rattle.trace_check.specs.declared.due.Due.{Due}
+use Rattle.trace_check.specs.declared.due.Due.TheVariants as due
+use Rattle.trace_check.proofs.KeepLemmas.{Decides-word_eq, Decides-gives_verdict}
+use Rattle.trace_check.proofs.LineLengths.{length-line_text}
+use Rattle.trace_check.proofs.StepLaws.{stepped-IsStep, IsStep-stepped}
+
+-- ---- What may follow ----
+
+-- The replay of two words begins.
+abbrev pub begun : List Letter → List Letter → Replay
+begun u v = record { left = u; right = v; present = quotient u v; steps = 0 }
+
+-- It has moved to a word.
+abbrev pub at_word : Replay → List Letter → Replay
+at_word replay w = record replay { present = w; steps = one_more replay.steps }
+
+-- A step may be said in a replay, and then this is due.
+pub record FollowsStep (replay : Replay) (step : StepLine) (next : Due) : Type 0 where
+  pub word : List Letter
+  pub leads : IsStep replay.present step word
+  pub short : length word ≤ MAX_LETTERS
+  pub due : next ≡ due.Step (at_word replay word)
+
+-- A line may be said where `now` is due, and then `next` is due.
+abbrev pub Follows : Due → Line → Due → Type 0
+Follows due.Start lines.Start next = next ≡ due.Left
+Follows due.Left (lines.Left w) next = next ≡ due.Right w
+Follows (due.Right u) (lines.Right v) next =
+    (length (quotient u v) ≤ MAX_LETTERS) × (next ≡ due.Step (begun u v))
+Follows (due.Step replay) (lines.Step step) next = FollowsStep replay step next
+Follows (due.Step replay) (lines.Verdict verdict) next = next ≡ due.Witness replay verdict
+Follows (due.Witness replay verdict) (lines.Witness w) next =
+    (w ≡ replay.present) × (verdict_of (sign_of w) ≡ Some verdict) × (next ≡ due.Finish replay verdict)
+Follows (due.Finish replay verdict) lines.Finish next = next ≡ due.Passed (claimed replay verdict)
+Follows now l next = ⊥
+
+-- A line says something that may follow.
+pub record IsKept (now : Due) (line : List ℕ) (next : Due) : Type 0 where
+  pub says : Line
+  pub text : line ≡ line_text says
+  pub bounds : IsLine says
+  pub follows : Follows now says next
+
+-- ---- Lines that aren't too long ----
+
+-- where no line is too long it is as where this one isn't
+kept_unless_long-false
+    : (now : Due) (line : List ℕ)
+    → kept_unless_long false now line ≡ kept_short now line
+kept_unless_long-false due.Start line = refl
+kept_unless_long-false due.Left line = refl
+kept_unless_long-false (due.Right left) line = refl
+kept_unless_long-false (due.Step replay) line = refl
+kept_unless_long-false (due.Witness replay verdict) line = refl
+kept_unless_long-false (due.Finish replay verdict) line = refl
+kept_unless_long-false (due.Passed claim) line = refl
+
+-- a line that is too long isn't kept
+kept_unless_long-true
+    : (now : Due) (line : List ℕ) (next : Due)
+    → kept_unless_long true now line ≡ Ok next
+    → ⊥
+kept_unless_long-true due.Start line next is = cc
+kept_unless_long-true due.Left line next is = cc
+kept_unless_long-true (due.Right left) line next is = cc
+kept_unless_long-true (due.Step replay) line next is = cc
+kept_unless_long-true (due.Witness replay verdict) line next is = cc
+kept_unless_long-true (due.Finish replay verdict) line next is = cc
+kept_unless_long-true (due.Passed claim) line next is = cc
+
+-- a line that isn't too long
+kept-short
+    : (now : Due) (line : List ℕ)
+    → length line ≤ MAX_LINE
+    → kept now line ≡ kept_short now line
+unfolding kept
+kept-short now line short =
+    ap (λ long. kept_unless_long long now line) (le-ltb MAX_LINE (length line) short)
+    ∙ kept_unless_long-false now line
+
+-- a line that is kept isn't too long
+kept-Ok
+    : (now : Due) (line : List ℕ) (next : Due)
+    → kept now line ≡ Ok next
+    → kept_short now line ≡ Ok next
+unfolding kept
+kept-Ok now line next is = go (ltb MAX_LINE (length line)) is
+  where
+    go : (long : Bool) → kept_unless_long long now line ≡ Ok next → kept_short now line ≡ Ok next
+    go true is = absurd (kept_unless_long-true now line next is)
+    go false is = sym (kept_unless_long-false now line) ∙ is
+
+-- ---- What is kept may follow ----
+
+-- what is read of a line that may stand there
+said-kept
+    : (now : Due) (line : List ℕ) (l : Line) (next : Due)
+    → line_of line ≡ Ok l
+    → Follows now l next
+    → IsKept now line next
+said-kept now line l next read follows =
+    let is = line_of-is line l read in
+    record { says = l; text = is.text; bounds = is.bounds; follows = follows }
+
+-- a line of the kind that is due
+of_kind-Ok
+    : (right : Bool) (why : Why) (kept : Result Due Why) (next : Due)
+    → of_kind right why kept ≡ Ok next
+    → kept ≡ Ok next
+of_kind-Ok true why kept next is = is
+of_kind-Ok false why kept next is = absurd (cc)
+
+-- a line with no reading of its own, by its text
+text-kept
+    : (now : Due) (line : List ℕ) (l : Line) (next : Due)
+    → bytes_eq line (line_text l) ≡ true
+    → IsLine l
+    → Follows now l next
+    → IsKept now line next
+text-kept now line l next test bounds follows = record {
+  says = l;
+  text = (bytes_eq-Decides line (line_text l)).0 test;
+  bounds = bounds;
+  follows = follows;
+}
+
+-- the start
+kept_start-Follows
+    : (line : List ℕ) (next : Due) (test : Bool)
+    → bytes_eq line (codes "braid-trace 1") ≡ test
+    → kept_start test ≡ Ok next
+    → IsKept due.Start line next
+kept_start-Follows line next true test is =
+    text-kept due.Start line lines.Start next test tt (sym (Ok-injective _ _ is))
+kept_start-Follows line next false test is = absurd (cc)
+
+-- the left word
+kept_left-Follows
+    : (line : List ℕ) (next : Due) (read : Result Line LineErr)
+    → line_of line ≡ read
+    → kept_left read ≡ Ok next
+    → IsKept due.Left line next
+kept_left-Follows line next (Ok (lines.Left w)) read is =
+    said-kept due.Left line (lines.Left w) next read (sym (Ok-injective _ _ is))
+kept_left-Follows line next (Ok lines.Start) read is = absurd (cc)
+kept_left-Follows line next (Ok (lines.Right w)) read is = absurd (cc)
+kept_left-Follows line next (Ok (lines.Step step)) read is = absurd (cc)
+kept_left-Follows line next (Ok (lines.Verdict v)) read is = absurd (cc)
+kept_left-Follows line next (Ok (lines.Witness w)) read is = absurd (cc)
+kept_left-Follows line next (Ok lines.Finish) read is = absurd (cc)
+kept_left-Follows line next (Err e) read is = absurd (cc)
+
+-- the right word
+begun_with-Ok
+    : (u v : List Letter) (next : Due)
+    → begun_with u v ≡ Ok next
+    → (length (quotient u v) ≤ MAX_LETTERS) × (next ≡ due.Step (begun u v))
+begun_with-Ok u v next is = go (ltb MAX_LETTERS (length (quotient u v))) refl is
+  where
+    go
+        : (long : Bool)
+        → ltb MAX_LETTERS (length (quotient u v)) ≡ long
+        → cond long (Err Long) (Ok (due.Step (begun u v))) ≡ Ok next
+        → (length (quotient u v) ≤ MAX_LETTERS) × (next ≡ due.Step (begun u v))
+    go true test is = absurd (cc)
+    go false test is = (ltb-false _ _ test, sym (Ok-injective _ _ is))
+
+kept_right-Follows
+    : (u : List Letter) (line : List ℕ) (next : Due) (read : Result Line LineErr)
+    → line_of line ≡ read
+    → kept_right u read ≡ Ok next
+    → IsKept (due.Right u) line next
+kept_right-Follows u line next (Ok (lines.Right w)) read is =
+    said-kept (due.Right u) line (lines.Right w) next read (begun_with-Ok u w next is)
+kept_right-Follows u line next (Ok lines.Start) read is = absurd (cc)
+kept_right-Follows u line next (Ok (lines.Left w)) read is = absurd (cc)
+kept_right-Follows u line next (Ok (lines.Step step)) read is = absurd (cc)
+kept_right-Follows u line next (Ok (lines.Verdict v)) read is = absurd (cc)
+kept_right-Follows u line next (Ok (lines.Witness w)) read is = absurd (cc)
+kept_right-Follows u line next (Ok lines.Finish) read is = absurd (cc)
+kept_right-Follows u line next (Err e) read is = absurd (cc)
+
+-- a step
+moved-Ok
+    : (replay : Replay) (step : StepLine) (next : Due) (to : Result (List Letter) Why)
+    → IsStepLine step
+    → stepped replay.present step ≡ to
+    → moved replay to ≡ Ok next
+    → FollowsStep replay step next
+moved-Ok replay step next (Ok w) bounds leads is =
+    let (step_is, short) = stepped-IsStep replay.present step w bounds leads in
+    record { word = w; leads = step_is; short = short; due = sym (Ok-injective _ _ is) }
+moved-Ok replay step next (Err why) bounds leads is = absurd (cc)
+
+-- a step or the verdict
+kept_step-Follows
+    : (replay : Replay) (line : List ℕ) (next : Due) (read : Result Line LineErr)
+    → line_of line ≡ read
+    → kept_step replay read ≡ Ok next
+    → IsKept (due.Step replay) line next
+kept_step-Follows replay line next (Ok (lines.Step step)) read is =
+    let bounds = (line_of-is line (lines.Step step) read).bounds in
+    said-kept (due.Step replay) line (lines.Step step) next read
+    (moved-Ok replay step next _ bounds refl is)
+kept_step-Follows replay line next (Ok (lines.Verdict v)) read is =
+    said-kept (due.Step replay) line (lines.Verdict v) next read (sym (Ok-injective _ _ is))
+kept_step-Follows replay line next (Ok lines.Start) read is = absurd (cc)
+kept_step-Follows replay line next (Ok (lines.Left w)) read is = absurd (cc)
+kept_step-Follows replay line next (Ok (lines.Right w)) read is = absurd (cc)
+kept_step-Follows replay line next (Ok (lines.Witness w)) read is = absurd (cc)
+kept_step-Follows replay line next (Ok lines.Finish) read is = absurd (cc)
+kept_step-Follows replay line next (Err e) read is = absurd (cc)
+
+-- the witness
+shown-Follows
+    : (replay : Replay) (verdict : Verdict) (w : List Letter) (next : Due)
+    → shown replay verdict w ≡ Ok next
+    → Follows (due.Witness replay verdict) (lines.Witness w) next
+shown-Follows replay verdict w next is =
+    let same_word = Decides-word_eq w replay.present in
+    let same_verdict = Decides-gives_verdict (verdict_of (sign_of w)) verdict in
+    go (word_eq w replay.present) (gives_verdict (verdict_of (sign_of w)) verdict) same_word.0 same_verdict.0 is
+  where
+    go
+        : (same goes : Bool)
+        → (same ≡ true → w ≡ replay.present)
+        → (goes ≡ true → verdict_of (sign_of w) ≡ Some verdict)
+        → cond same (cond goes (Ok (due.Finish replay verdict)) (Err Sign)) (Err Witness) ≡ Ok next
+        → Follows (due.Witness replay verdict) (lines.Witness w) next
+    go true true one two is = (one refl, two refl, sym (Ok-injective _ _ is))
+    go true false one two is = absurd (cc)
+    go false goes one two is = absurd (cc)
+
+kept_witness-Follows
+    : (replay : Replay) (verdict : Verdict) (line : List ℕ) (next : Due) (read : Result Line LineErr)
+    → line_of line ≡ read
+    → kept_witness replay verdict read ≡ Ok next
+    → IsKept (due.Witness replay verdict) line next
+kept_witness-Follows replay verdict line next (Ok (lines.Witness w)) read is =
+    said-kept (due.Witness replay verdict) line (lines.Witness w) next read
+    (shown-Follows replay verdict w next is)
+kept_witness-Follows replay verdict line next (Ok lines.Start) read is = absurd (cc)
+kept_witness-Follows replay verdict line next (Ok (lines.Left w)) read is = absurd (cc)
+kept_witness-Follows replay verdict line next (Ok (lines.Right w)) read is = absurd (cc)
+kept_witness-Follows replay verdict line next (Ok (lines.Step step)) read is = absurd (cc)
+kept_witness-Follows replay verdict line next (Ok (lines.Verdict v)) read is = absurd (cc)
+kept_witness-Follows replay verdict line next (Ok lines.Finish) read is = absurd (cc)
+kept_witness-Follows replay verdict line next (Err e) read is = absurd (cc)
+
+-- the end
+kept_finish-Follows
+    : (replay : Replay) (verdict : Verdict) (line : List ℕ) (next : Due) (test : Bool)
+    → bytes_eq line (codes "end") ≡ test
+    → kept_finish replay verdict test ≡ Ok next
+    → IsKept (due.Finish replay verdict) line next
+kept_finish-Follows replay verdict line next true test is =
+    text-kept (due.Finish replay verdict) line lines.Finish next test tt (sym (Ok-injective _ _ is))
+kept_finish-Follows replay verdict line next false test is = absurd (cc)
+
+kept_short-Follows
+    : (now : Due) (line : List ℕ) (next : Due)
+    → kept_short now line ≡ Ok next
+    → IsKept now line next
+kept_short-Follows due.Start line next is = kept_start-Follows line next _ refl is
+kept_short-Follows due.Left line next is =
+    kept_left-Follows line next _ refl (of_kind-Ok (is_kind (kind_of line) kinds.Left) _ _ next is)
+kept_short-Follows (due.Right u) line next is =
+    kept_right-Follows u line next _ refl (of_kind-Ok (is_kind (kind_of line) kinds.Right) _ _ next is)
+kept_short-Follows (due.Step replay) line next is = kept_step-Follows replay line next _ refl is
+kept_short-Follows (due.Witness replay verdict) line next is =
+    kept_witness-Follows replay verdict line next _ refl
+    (of_kind-Ok (is_kind (kind_of line) kinds.Witness) _ _ next is)
+kept_short-Follows (due.Finish replay verdict) line next is =
+    kept_finish-Follows replay verdict line next _ refl is
+kept_short-Follows (due.Passed claim) line next is = absurd (cc)
+
+-- a line that is kept says something that may follow
+pub kept-Follows
+    : (now : Due) (line : List ℕ) (next : Due)
+    → kept now line ≡ Ok next
+    → IsKept now line next
+kept-Follows now line next is = kept_short-Follows now line next (kept-Ok now line next is)
+
+-- ---- What may follow is kept ----
+
+-- a line is looked at where its kind is due
+of_kind-due
+    : (right : Bool) (why : Why) (kept : Result Due Why)
+    → right ≡ true
+    → of_kind right why kept ≡ kept
+of_kind-due true why kept is = refl
+of_kind-due false why kept is = absurd (cc)
+
+kept_short-line_text
+    : (now : Due) (l : Line) (next : Due)
+    → IsLine l
+    → Follows now l next
+    → kept_short now (line_text l) ≡ Ok next
+kept_short-line_text due.Start lines.Start next bounds follows = ap (λ d. Ok d) (sym follows)
+kept_short-line_text due.Left (lines.Left w) next bounds follows =
+    of_kind-due _ _ _ (ap (λ k. is_kind k kinds.Left) (kind_of-line_text (lines.Left w)))
+    ∙ ap kept_left (line_of-line_text (lines.Left w) bounds) ∙ ap (λ d. Ok d) (sym follows)
+kept_short-line_text (due.Right u) (lines.Right w) next bounds (short, follows) =
+    of_kind-due _ _ _ (ap (λ k. is_kind k kinds.Right) (kind_of-line_text (lines.Right w)))
+    ∙ ap (kept_right u) (line_of-line_text (lines.Right w) bounds)
+    ∙ rw (le-ltb _ _ short) (ap (λ d. Ok d) (sym follows))
+kept_short-line_text (due.Step replay) (lines.Step step) next bounds follows =
+    let leads = IsStep-stepped replay.present step follows.word follows.leads follows.short in
+    ap (kept_step replay) (line_of-line_text (lines.Step step) bounds)
+    ∙ ap (moved replay) leads ∙ ap (λ d. Ok d) (sym follows.due)
+kept_short-line_text (due.Step replay) (lines.Verdict v) next bounds follows =
+    ap (kept_step replay) (line_of-line_text (lines.Verdict v) bounds)
+    ∙ ap (λ d. Ok d) (sym follows)
+kept_short-line_text (due.Witness replay verdict) (lines.Witness w) next bounds (same, sign, follows) =
+    let word = (Decides-word_eq w replay.present).1 same in
+    let goes = (Decides-gives_verdict (verdict_of (sign_of w)) verdict).1 sign in
+    of_kind-due _ _ _ (ap (λ k. is_kind k kinds.Witness) (kind_of-line_text (lines.Witness w)))
+    ∙ ap (kept_witness replay verdict) (line_of-line_text (lines.Witness w) bounds)
+    ∙ rw (word, goes) (ap (λ d. Ok d) (sym follows))
+kept_short-line_text (due.Finish replay verdict) lines.Finish next bounds follows =
+    ap (λ d. Ok d) (sym follows)
+kept_short-line_text now l next bounds follows = absurd follows
+
+-- what may follow is kept
+pub Follows-kept
+    : (now : Due) (l : Line) (next : Due)
+    → IsLine l
+    → Follows now l next
+    → kept now (line_text l) ≡ Ok next
+Follows-kept now l next bounds follows =
+    kept-short now (line_text l) (length-line_text l bounds)
+    ∙ kept_short-line_text now l next bounds follows

@@ -1,0 +1,10 @@
+pub mod CuttingLemmas
+pub mod KeepLemmas
+pub mod LineLengths
+pub mod StepLaws
+pub mod KeptLaws
+pub mod WalkLaws
+pub mod CheckingLaws
+pub mod VerdictLemmas
+pub mod AcceptedLemmas
+pub mod RefusalLaws

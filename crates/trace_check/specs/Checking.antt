@@ -1,0 +1,269 @@
+-- How a file is checked, line by line, and its first refusal.
+--
+-- The lines are taken in order, each in a state that says which line is due. The first line that can't be
+-- kept is refused, for the first cause that holds of it. Line numbers and numbers of steps are given up to
+-- the greatest of 64 bits.
+-- Source: this project's own.
+--
+--   stepped w step       the word that a step leads to, or why it leads to none
+--   kept due line        what is due after a line, or why it can't be kept
+--   walk k due ls rest   what the lines from number k on give, and what stands behind the last LF
+--   checked_of bytes     what a file claims, or the line and the cause of its first refusal
+--
+-- The first refusal without the walk is `IsFirstRefusal` in `FirstRefusal.antt`.
+-- That it claims something exactly where it is accepted is `accepted-checked_of` and `checked_of-accepted`
+-- in `proofs/CheckingLaws.antt`.
+use Rattle.std.specs.Prelude.{◌≡◌, ℕ, ◌+◌, ◌-◌, ◌==◌, ◌&&◌, ◌||◌, nat_lt, Bool, true, false, not, if◌then◌else◌, List, [], ◌∷◌, ◌++◌, length, take, drop, codes, Option, Some, None, Result, Ok, Err}
+use Rattle.std.specs.Bool.{beq}
+use Rattle.std.specs.Cmp.Lexicographic.{pointwise}
+use Rattle.std.specs.Str.{bytes_eq}
+use Rattle.wb_base.specs.Streams.{one_more}
+use Rattle.braid_word.specs.Words.{Letter, opposite, quotient}
+use Rattle.braid_word.specs.Sign.{sign_of}
+use Rattle.braid_word.specs.declared.TheConstants.{MAX_LETTERS}
+use Rattle.handle_find.specs.Handles.{is_handle_at, reduct}
+use Rattle.trace_format.specs.declared.verdict.Verdict.{Verdict}
+use Rattle.trace_format.specs.declared.verdict.Verdict.TheVariants as verdicts
+use Rattle.trace_format.specs.declared.line.Kind.{Kind}
+use Rattle.trace_format.specs.declared.line.Kind.TheVariants as kinds
+use Rattle.trace_format.specs.declared.line.StepLine.{StepLine}
+use Rattle.trace_format.specs.declared.line.StepLine.TheVariants.{Handle, Commute, Swap, Delete, Insert}
+use Rattle.trace_format.specs.declared.line.Line.{Line}
+use Rattle.trace_format.specs.declared.line.Line.TheVariants as lines
+use Rattle.trace_format.specs.declared.line.LineErr.{LineErr}
+use Rattle.trace_format.specs.declared.line.LineErr.TheVariants as line_errors
+use Rattle.trace_format.specs.Verdicts.{verdict_of}
+use Rattle.trace_format.specs.TraceLines.{kind_of, line_of}
+use Rattle.trace_check.specs.Accepted.{Claim}
+use Rattle.trace_check.specs.Cutting.{cut}
+use Rattle.trace_check.specs.declared.TheConstants.{MAX_LINE}
+use Rattle.trace_check.specs.declared.checked.Why.{Why}
+use Rattle.trace_check.specs.declared.checked.Why.TheVariants.{Form, Header, Step, Long, Witness, Sign, Truncated, Extra}
+use Rattle.trace_check.specs.declared.checked.CheckErr.{CheckErr}
+use Rattle.trace_check.specs.declared.checked.CheckErr.TheVariants as check_errors
+use Rattle.trace_check.specs.declared.replay.Replay.{Replay}
+use Rattle.trace_check.specs.declared.due.Due.{Due}
+use Rattle.trace_check.specs.declared.due.Due.TheVariants as due
+
+-- ---- Tests ----
+
+-- Whether two letters, and two words, are one.
+abbrev pub letter_eq : Letter → Letter → Bool
+letter_eq x y = (x.index == y.index) && beq x.negative y.negative
+
+abbrev pub word_eq : List Letter → List Letter → Bool
+word_eq = pointwise letter_eq
+
+-- Whether a verdict is this one.
+abbrev pub verdict_eq : Verdict → Verdict → Bool
+verdict_eq verdicts.Less verdicts.Less = true
+verdict_eq verdicts.Equal verdicts.Equal = true
+verdict_eq verdicts.Greater verdicts.Greater = true
+verdict_eq v w = false
+
+abbrev pub gives_verdict : Option Verdict → Verdict → Bool
+gives_verdict None verdict = false
+gives_verdict (Some v) verdict = verdict_eq v verdict
+
+-- Whether the letters at two places, counted from 0, are a handle.
+abbrev pub is_handle_within : List Letter → ℕ → ℕ → Bool
+is_handle_within w p q = nat_lt p q && nat_lt q (length w) && is_handle_at w (p, q)
+
+-- Whether the indices of two letters are 2 or more apart.
+abbrev pub are_far : Letter → Letter → Bool
+are_far x y = nat_lt (x.index + 1) y.index || nat_lt (y.index + 1) x.index
+
+-- Whether they differ by 1.
+abbrev pub are_near : Letter → Letter → Bool
+are_near x y = (y.index == x.index + 1) || (x.index == y.index + 1)
+
+-- Whether two letters have one sign.
+abbrev pub have_one_sign : Letter → Letter → Bool
+have_one_sign x y = beq y.negative x.negative
+
+-- Whether three letters are a side of a braid relation: they have one sign, the first and the last one
+-- index, and the second one that differs by 1.
+abbrev pub are_braided : Letter → Letter → Letter → Bool
+are_braided x y z = (z.index == x.index) && have_one_sign x y && have_one_sign x z && are_near x y
+
+-- Whether two letters are inverse to each other.
+abbrev pub are_inverse : Letter → Letter → Bool
+are_inverse x y = (y.index == x.index) && not (have_one_sign x y)
+
+-- Whether a line's kind is this one.
+abbrev pub is_kind : Option Kind → Kind → Bool
+is_kind (Some kinds.Start) kinds.Start = true
+is_kind (Some kinds.Left) kinds.Left = true
+is_kind (Some kinds.Right) kinds.Right = true
+is_kind (Some kinds.Step) kinds.Step = true
+is_kind (Some kinds.Verdict) kinds.Verdict = true
+is_kind (Some kinds.Witness) kinds.Witness = true
+is_kind (Some kinds.Finish) kinds.Finish = true
+is_kind kind other = false
+
+-- ---- Steps ----
+
+-- The new word, where it isn't too long.
+abbrev pub stepped_to : List Letter → Result (List Letter) Why
+stepped_to w = if nat_lt MAX_LETTERS (length w) then Err Long else Ok w
+
+-- The word with two letters that commute, the first at a place, in the other order: by the letters before
+-- that place, and those from there on.
+abbrev pub commuted : List Letter → List Letter → Result (List Letter) Why
+commuted front (x ∷ (y ∷ back)) = if are_far x y then stepped_to (front ++ (y ∷ x ∷ back)) else Err Step
+commuted front behind = Err Step
+
+-- The same with three letters that are a side of a braid relation as the other side.
+abbrev pub braided : List Letter → List Letter → Result (List Letter) Why
+braided front (x ∷ (y ∷ (z ∷ back))) =
+    if are_braided x y z then stepped_to (front ++ (y ∷ x ∷ y ∷ back)) else Err Step
+braided front behind = Err Step
+
+-- The same without two letters that are inverse to each other.
+abbrev pub deleted : List Letter → List Letter → Result (List Letter) Why
+deleted front (x ∷ (y ∷ back)) = if are_inverse x y then stepped_to (front ++ back) else Err Step
+deleted front behind = Err Step
+
+-- The word that a step leads to. Places count from 1. A letter is inserted behind the last one at most.
+abbrev pub stepped : List Letter → StepLine → Result (List Letter) Why
+stepped w (Handle p q) =
+    if is_handle_within w (p - 1) (q - 1) then stepped_to (reduct w (p - 1) (q - 1)) else Err Step
+stepped w (Commute p) = commuted (take (p - 1) w) (drop (p - 1) w)
+stepped w (Swap p) = braided (take (p - 1) w) (drop (p - 1) w)
+stepped w (Delete p) = deleted (take (p - 1) w) (drop (p - 1) w)
+stepped w (Insert p x) =
+    if nat_lt (length w) (p - 1)
+    then Err Step
+    else stepped_to (take (p - 1) w ++ (x ∷ opposite x ∷ drop (p - 1) w))
+
+-- ---- One line ----
+
+-- The first line.
+abbrev pub kept_start : Bool → Result Due Why
+kept_start true = Ok due.Left
+kept_start false = Err Header
+
+-- The cause of a line that has a due keyword and isn't read. Want of memory has a line here for completeness:
+-- a definition never answers it.
+abbrev pub cause_of : LineErr → Why
+cause_of line_errors.Long = Long
+cause_of line_errors.Unknown = Form
+cause_of line_errors.Form = Form
+cause_of line_errors.Memory = Form
+
+-- The left word.
+abbrev pub kept_left : Result Line LineErr → Result Due Why
+kept_left (Ok (lines.Left w)) = Ok (due.Right w)
+kept_left (Ok other) = Err Form
+kept_left (Err e) = Err (cause_of e)
+
+-- The right word, with which the replay begins at the quotient.
+abbrev pub begun_with : List Letter → List Letter → Result Due Why
+begun_with left right =
+    if nat_lt MAX_LETTERS (length (quotient left right))
+    then Err Long
+    else Ok (due.Step (record { left = left; right = right; present = quotient left right; steps = 0 }))
+
+abbrev pub kept_right : List Letter → Result Line LineErr → Result Due Why
+kept_right left (Ok (lines.Right w)) = begun_with left w
+kept_right left (Ok other) = Err Form
+kept_right left (Err e) = Err (cause_of e)
+
+-- A step, or the verdict.
+abbrev pub moved : Replay → Result (List Letter) Why → Result Due Why
+moved replay (Ok w) = Ok (due.Step (record replay { present = w; steps = one_more replay.steps }))
+moved replay (Err why) = Err why
+
+abbrev pub kept_step : Replay → Result Line LineErr → Result Due Why
+kept_step replay (Ok (lines.Step step)) = moved replay (stepped replay.present step)
+kept_step replay (Ok (lines.Verdict verdict)) = Ok (due.Witness replay verdict)
+kept_step replay (Ok other) = Err Form
+kept_step replay (Err e) = Err Form
+
+-- The witness: the present word, with the sign that goes with the verdict.
+abbrev pub shown : Replay → Verdict → List Letter → Result Due Why
+shown replay verdict w =
+    if word_eq w replay.present
+    then (if gives_verdict (verdict_of (sign_of w)) verdict then Ok (due.Finish replay verdict) else Err Sign)
+    else Err Witness
+
+abbrev pub kept_witness : Replay → Verdict → Result Line LineErr → Result Due Why
+kept_witness replay verdict (Ok (lines.Witness w)) = shown replay verdict w
+kept_witness replay verdict (Ok other) = Err Form
+kept_witness replay verdict (Err e) = Err (cause_of e)
+
+-- The last line, and what the file claims with it.
+abbrev pub claimed : Replay → Verdict → Claim
+claimed replay verdict = record {
+  left = replay.left;
+  right = replay.right;
+  verdict = verdict;
+  witness = replay.present;
+  steps = replay.steps;
+}
+
+abbrev pub kept_finish : Replay → Verdict → Bool → Result Due Why
+kept_finish replay verdict true = Ok (due.Passed (claimed replay verdict))
+kept_finish replay verdict false = Err Form
+
+-- A line of the due kind is looked at; any other has this cause.
+abbrev pub of_kind : Bool → Why → Result Due Why → Result Due Why
+of_kind true why kept = kept
+of_kind false why kept = Err why
+
+-- What is due after a line that isn't too long.
+abbrev pub kept_short : Due → List ℕ → Result Due Why
+kept_short due.Start line = kept_start (bytes_eq line (codes "braid-trace 1"))
+kept_short due.Left line = of_kind (is_kind (kind_of line) kinds.Left) Header (kept_left (line_of line))
+kept_short (due.Right left) line =
+    of_kind (is_kind (kind_of line) kinds.Right) Header (kept_right left (line_of line))
+kept_short (due.Step replay) line = kept_step replay (line_of line)
+kept_short (due.Witness replay verdict) line =
+    of_kind (is_kind (kind_of line) kinds.Witness) Form (kept_witness replay verdict (line_of line))
+kept_short (due.Finish replay verdict) line = kept_finish replay verdict (bytes_eq line (codes "end"))
+kept_short (due.Passed claim) line = Err Extra
+
+-- What is due after any line.
+abbrev pub kept_unless_long : Bool → Due → List ℕ → Result Due Why
+kept_unless_long long (due.Passed claim) line = Err Extra
+kept_unless_long true now line = Err Long
+kept_unless_long false now line = kept_short now line
+
+unfoldable pub kept : Due → List ℕ → Result Due Why
+kept now line = kept_unless_long (nat_lt MAX_LINE (length line)) now line
+
+-- ---- All lines ----
+
+-- Where the bytes end, behind the last LF.
+abbrev pub at_end : Due → List ℕ → Result Claim Why
+at_end (due.Passed claim) [] = Ok claim
+at_end (due.Passed claim) (byte ∷ rest) = Err Extra
+at_end now rest = if nat_lt MAX_LINE (length rest) then Err Long else Err Truncated
+
+-- A refusal, at its line.
+abbrev pub at_line : {X : Type 0} → ℕ → Result X Why → Result X (ℕ × Why)
+at_line k (Ok x) = Ok x
+at_line k (Err why) = Err (k, why)
+
+-- What is due next goes on; a refusal stays.
+abbrev pub walk_on : ℕ → Result Due Why → (Due → Result Claim (ℕ × Why)) → Result Claim (ℕ × Why)
+walk_on k (Ok next) go_on = go_on next
+walk_on k (Err why) go_on = Err (k, why)
+
+-- The lines from number k on, and then what stands behind the last LF.
+abbrev pub walk : ℕ → Due → List (List ℕ) → List ℕ → Result Claim (ℕ × Why)
+walk k now [] rest = at_line k (at_end now rest)
+walk k now (line ∷ ls) rest = walk_on k (kept now line) (λ next. walk (one_more k) next ls rest)
+
+-- What a file claims, or its first refusal. Its lines count from 1.
+unfoldable pub checked_of : List ℕ → Result Claim (ℕ × Why)
+checked_of bytes = walk 1 due.Start (cut bytes).0 (cut bytes).1
+
+-- What a checker answered is what the file is, unless memory ran out.
+abbrev pub Fails : CheckErr → Result Claim (ℕ × Why) → Type 0
+Fails (check_errors.Refused line why) file = file ≡ Err (line, why)
+Fails check_errors.Memory file = Unit {0}
+
+abbrev pub Gives : Result Claim CheckErr → Result Claim (ℕ × Why) → Type 0
+Gives (Ok claim) file = file ≡ Ok claim
+Gives (Err e) file = Fails e file

@@ -1,0 +1,5 @@
+pub mod Accepted
+pub mod Cutting
+pub mod Checking
+pub mod Keeping
+pub mod FirstRefusal

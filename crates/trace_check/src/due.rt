@@ -1,0 +1,23 @@
+use crate::checked::Checked;
+use crate::replay::Replay;
+use braid_word::Word;
+use trace_format::Verdict;
+
+/// Which line of a trace file is due, with what was read before it.
+#[derive(Debug, Drop)]
+pub enum Due {
+    /// The start.
+    Start,
+    /// The left word.
+    Left,
+    /// The right word, behind this left one.
+    Right(Word),
+    /// A step, or the verdict.
+    Step(Replay),
+    /// The witness of this verdict.
+    Witness(Replay, Verdict),
+    /// The end.
+    Finish(Replay, Verdict),
+    /// No line: the end was passed.
+    Passed(Checked),
+}

@@ -1,0 +1,217 @@
+// One line of a trace file, by the line that is due.
+ghost use Rattle.std.specs.Prelude.{◌≡◌, Some, Ok};
+ghost use Rattle.std.specs.Bool.{Decides};
+ghost use Rattle.braid_word.specs.Sign.{sign_of};
+ghost use Rattle.trace_format.specs.Verdicts.{verdict_of};
+ghost use Rattle.trace_format.specs.TraceLines.{IsLine, IsStepLine};
+ghost use Rattle.trace_check.specs.Checking.{begun_with, kept, kept_short, kept_step, moved, stepped, shown};
+ghost use Rattle.trace_check.specs.Keeping.{Keeps, stop_of};
+ghost use Rattle.trace_check.specs.declared.due.Due.TheVariants.{Start, Left, Right, Step, Witness, Finish};
+ghost use Rattle.trace_format.specs.declared.line.LineErr.TheVariants.{Memory};
+
+use crate::MAX_LINE;
+use crate::checked::{Checked, Why};
+use crate::due::Due;
+use crate::replay::Replay;
+use crate::steps::step_to;
+use braid_word::{Letter, MAX_LETTERS, Word, quotient, sign_of};
+use std::alloc::{AllocError, Global};
+use trace_format::{Kind, Line, LineErr, StepLine, Verdict, kind_of, read_line, verdict_of};
+
+/// Why a line isn't kept.
+#[derive(Debug, Drop)]
+pub enum Stop {
+    /// It is refused for this cause.
+    Refused(Why),
+    /// Memory ran out.
+    Memory,
+}
+
+impl From<LineErr> for Stop {
+    ghost from_gives = { λ error stop. stop ≡ stop_of error };
+
+    fn from(error: LineErr) -> Stop {
+        match error {
+            LineErr::Memory => Stop::Memory,
+            LineErr::Long => Stop::Refused(Why::Long),
+            LineErr::Unknown | LineErr::Form => Stop::Refused(Why::Form),
+        }
+    }
+}
+
+impl From<AllocError> for Stop {
+    ghost from_gives = { λ _ stop. stop ≡ stop_of Memory };
+
+    fn from(_: AllocError) -> Stop {
+        Stop::Memory
+    }
+}
+
+// The start.
+fn keep_start(line: &[u8]) -> Result<Due, Stop>
+    ensures { Keeps result (kept_short Start line.now) }
+{
+    if line == b"braid-trace 1".as_slice() {
+        Ok(Due::Left)
+    } else {
+        Err(Stop::Refused(Why::Header))
+    }
+}
+
+// The left word.
+fn keep_left(alloc: Global, line: &[u8]) -> Result<Due, Stop>
+    ensures { Keeps result (kept_short Left line.now) }
+{
+    let Some(Kind::Left) = kind_of(line) else {
+        return Err(Stop::Refused(Why::Header));
+    };
+    match read_line(alloc, line)? {
+        Line::Left(word) => Ok(Due::Right(word)),
+        _ => Err(Stop::Refused(Why::Form)),
+    }
+}
+
+// Both words: the replay begins at their quotient.
+fn begin(alloc: Global, left: Word, right: Word) -> Result<Due, Stop>
+    ensures { Keeps result (begun_with left right) }
+{
+    let present = quotient(alloc, left.letters(), right.letters())?;
+    if present.letters().len() > MAX_LETTERS {
+        return Err(Stop::Refused(Why::Long));
+    }
+    Ok(Due::Step(Replay {
+        left,
+        right,
+        present,
+        steps: 0,
+    }))
+}
+
+// The right word, behind the left one.
+fn keep_right(alloc: Global, left: Word, line: &[u8]) -> Result<Due, Stop>
+    ensures { Keeps result (kept_short (Right left) line.now) }
+{
+    let Some(Kind::Right) = kind_of(line) else {
+        return Err(Stop::Refused(Why::Header));
+    };
+    match read_line(alloc, line)? {
+        Line::Right(word) => begin(alloc, left, word),
+        _ => Err(Stop::Refused(Why::Form)),
+    }
+}
+
+// A step of the replay.
+fn keep_move(alloc: Global, replay: Replay, step: StepLine) -> Result<Due, Stop>
+    requires { IsStepLine step }
+    ensures { Keeps result (moved replay (stepped replay.present step)) }
+{
+    let present = step_to(alloc, replay.present.letters(), step)?;
+    Ok(Due::Step(Replay {
+        left: replay.left,
+        right: replay.right,
+        present,
+        steps: replay.steps.saturating_add(1),
+    }))
+}
+
+// A step, or the verdict, as the line says it.
+fn keep_said(alloc: Global, replay: Replay, said: Line) -> Result<Due, Stop>
+    requires { IsLine said }
+    ensures { Keeps result (kept_step replay (Ok said)) }
+{
+    match said {
+        Line::Step(step) => keep_move(alloc, replay, step),
+        Line::Verdict(verdict) => Ok(Due::Witness(replay, verdict)),
+        _ => Err(Stop::Refused(Why::Form)),
+    }
+}
+
+// A step, or the verdict.
+fn keep_step(alloc: Global, replay: Replay, line: &[u8]) -> Result<Due, Stop>
+    ensures { Keeps result (kept_short (Step replay) line.now) }
+{
+    match read_line(alloc, line) {
+        Ok(said) => keep_said(alloc, replay, said),
+        Err(LineErr::Memory) => Err(Stop::Memory),
+        Err(_) => Err(Stop::Refused(Why::Form)),
+    }
+}
+
+// Whether two words are the same letters.
+fn are_same(u: &[Letter], v: &[Letter]) -> bool
+    ensures { Decides result (u.now ≡ v.now) }
+{
+    u == v
+}
+
+// Whether the sign of a word goes with a verdict.
+fn has_sign_of(word: &[Letter], verdict: Verdict) -> bool
+    ensures { Decides result (verdict_of (sign_of word.now) ≡ Some verdict) }
+{
+    verdict_of(sign_of(word)) == Some(verdict)
+}
+
+// The witness of a verdict, by its word.
+fn show(replay: Replay, verdict: Verdict, word: Word) -> Result<Due, Stop>
+    ensures { Keeps result (shown replay verdict word) }
+{
+    if !are_same(word.letters(), replay.present.letters()) {
+        return Err(Stop::Refused(Why::Witness));
+    }
+    if !has_sign_of(word.letters(), verdict) {
+        return Err(Stop::Refused(Why::Sign));
+    }
+    Ok(Due::Finish(replay, verdict))
+}
+
+// The witness of a verdict.
+fn keep_witness(alloc: Global, replay: Replay, verdict: Verdict, line: &[u8]) -> Result<Due, Stop>
+    ensures { Keeps result (kept_short (Witness replay verdict) line.now) }
+{
+    let Some(Kind::Witness) = kind_of(line) else {
+        return Err(Stop::Refused(Why::Form));
+    };
+    match read_line(alloc, line)? {
+        Line::Witness(word) => show(replay, verdict, word),
+        _ => Err(Stop::Refused(Why::Form)),
+    }
+}
+
+// The end.
+fn keep_finish(replay: Replay, verdict: Verdict, line: &[u8]) -> Result<Due, Stop>
+    ensures { Keeps result (kept_short (Finish replay verdict) line.now) }
+{
+    if line == b"end".as_slice() {
+        let Replay {
+            left,
+            right,
+            present,
+            steps,
+        } = replay;
+        Ok(Due::Passed(Checked::new(left, right, verdict, present, steps)))
+    } else {
+        Err(Stop::Refused(Why::Form))
+    }
+}
+
+/// What is due after a line, which is given without its LF.
+#[tactic(auto, unfolding(crate::specs::Checking::kept))]
+pub fn keep(alloc: Global, due: Due, line: &[u8]) -> Result<Due, Stop>
+    ensures { Keeps result (kept due line.now) }
+{
+    if let Due::Passed(_) = due {
+        return Err(Stop::Refused(Why::Extra));
+    }
+    if line.len() > MAX_LINE {
+        return Err(Stop::Refused(Why::Long));
+    }
+    match due {
+        Due::Start => keep_start(line),
+        Due::Left => keep_left(alloc, line),
+        Due::Right(left) => keep_right(alloc, left, line),
+        Due::Step(replay) => keep_step(alloc, replay, line),
+        Due::Witness(replay, verdict) => keep_witness(alloc, replay, verdict, line),
+        Due::Finish(replay, verdict) => keep_finish(replay, verdict, line),
+        Due::Passed(_) => Err(Stop::Refused(Why::Extra)),
+    }
+}

@@ -1,0 +1,17 @@
+//! The checker of trace files: it replays the steps of a file, of any maker, and accepts only what holds.
+#![tactic(auto)]
+
+mod checked;
+mod due;
+mod file;
+mod keep;
+mod replay;
+mod steps;
+#[cfg(test)]
+mod tests;
+
+pub use checked::{CheckErr, Checked, Why};
+pub use file::check;
+
+/// The most bytes of a line, without its LF.
+pub const MAX_LINE: usize = 524_288;

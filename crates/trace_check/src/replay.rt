@@ -1,0 +1,10 @@
+use braid_word::Word;
+
+/// The words of a trace file that have been read, the word that its steps have reached, and their number.
+#[derive(Debug, Drop)]
+pub struct Replay {
+    pub left: Word,
+    pub right: Word,
+    pub present: Word,
+    pub steps: u64,
+}

@@ -1,0 +1,259 @@
+use crate::{CheckErr, MAX_LINE, Why, check};
+use braid_word::MAX_LETTERS;
+use std::alloc::Global;
+use std::test::Fail;
+use trace_format::Verdict;
+
+// The trace of the leftmost reduction of `1 2` and `2 1`.
+const TRACE: &str =
+    "braid-trace 1\nleft 1 2\nright 2 1\nh 2 4\nh 1 2\nverdict less\nwitness 1 -2\nend\n";
+
+// What a file is: its verdict and its steps, or the line and the cause of its first refusal.
+fn answer(alloc: Global, file: &[u8]) -> Result<String, Fail> {
+    match check(alloc, file) {
+        Ok(checked) => {
+            let (verdict, steps) = (checked.verdict(), checked.steps());
+            Ok(format!(in alloc; "accepted {verdict:?} {steps}")?)
+        }
+        Err(CheckErr::Refused { line, why }) => Ok(format!(in alloc; "refused {line} {why:?}")?),
+        Err(CheckErr::Memory) => Ok(String::from_str(alloc, "memory")?),
+    }
+}
+
+#[test]
+fn accepts_a_trace_and_nothing_else(rt: HostRuntime) -> Result<(), Fail> {
+    let alloc = rt.alloc();
+    for (file, want) in [
+        (TRACE, "accepted Less 2"),
+        (
+            "braid-trace 1\nleft 2\nright 1\nverdict less\nwitness -2 1\nend\n",
+            "accepted Less 0",
+        ),
+        (
+            "braid-trace 1\nleft\nright\nverdict equal\nwitness\nend\n",
+            "accepted Equal 0",
+        ),
+        (
+            "braid-trace 1\nleft 1 2\nright 2 1\nh 2 4\nh 1 2\nverdict greater\nwitness 1 -2\nend\n",
+            "refused 7 Sign",
+        ),
+        (
+            "braid-trace 1\nleft 1 2\nright 2 1\nh 2 4\nh 1 2\nverdict less\nwitness 1\nend\n",
+            "refused 7 Witness",
+        ),
+        (
+            "braid-trace 1\nleft 1 2\nright 2 1\nh 2 3\nh 1 2\nverdict less\nwitness 1 -2\nend\n",
+            "refused 4 Step",
+        ),
+        (
+            "braid-trace 1\nleft 1 2\nright 2 1\nh 02 4\nh 1 2\nverdict less\nwitness 1 -2\nend\n",
+            "refused 4 Form",
+        ),
+        (
+            "braid-trace 1\nleft 1 2\nright 2 1\nh 2 4\nh 1 2\nverdict less\nwitness 1 -2\nend\n\n",
+            "refused 9 Extra",
+        ),
+        ("braid-trace 1\nright 1\n", "refused 2 Header"),
+        ("braid-trace 1\nleft-term x\n", "refused 2 Header"),
+        ("braid-trace 1\nleft \n", "refused 2 Form"),
+        ("braid-trace 1\r\n", "refused 1 Header"),
+        ("braid-trace 2\n", "refused 1 Header"),
+        ("braid-trace 1\nleft 1\nright 1\nh 1 1\n", "refused 4 Step"),
+        (
+            "braid-trace 1\nleft 1\nright 1\nh 4294967295 4294967295\n",
+            "refused 4 Step",
+        ),
+        (
+            "braid-trace 1\nleft 1\nright 1\nh 1 4294967296\n",
+            "refused 4 Form",
+        ),
+        ("braid-trace 1\nleft 1\nright 1\nb 1\n", "refused 4 Form"),
+        (
+            "braid-trace 1\nleft 1\nright 1\nverdict maybe\n",
+            "refused 4 Form",
+        ),
+        (
+            "braid-trace 1\nleft\nright 1 -1\nverdict less\nwitness 1 -1\n",
+            "refused 5 Sign",
+        ),
+        (
+            "braid-trace 1\nleft\nright 1\nverdict less\nverdict less\n",
+            "refused 5 Form",
+        ),
+        (
+            "braid-trace 1\nleft\nright 1\nverdict less\nwitness 1\nend \n",
+            "refused 6 Form",
+        ),
+    ] {
+        let got = answer(alloc, file.as_bytes())?;
+        assert_eq!(rt; got.as_str(), want, "of {file:?}");
+    }
+    Ok(())
+}
+
+#[test]
+fn replays_the_steps_of_any_maker(rt: HostRuntime) -> Result<(), Fail> {
+    let alloc = rt.alloc();
+    for (words, steps, end, want) in [
+        (
+            "left 1 2 1\nright 2 1 2\n",
+            "s 4\nd 3\nd 2\nd 1\n",
+            "verdict equal\nwitness\nend\n",
+            "accepted Equal 4",
+        ),
+        (
+            "left 1 3\nright 3 1\n",
+            "c 2\nd 1\nd 1\n",
+            "verdict equal\nwitness\nend\n",
+            "accepted Equal 3",
+        ),
+        (
+            "left\nright 2\n",
+            "i 1 3\n",
+            "verdict less\nwitness 3 -3 2\nend\n",
+            "accepted Less 1",
+        ),
+        (
+            "left\nright 2\n",
+            "i 2 -3\n",
+            "verdict less\nwitness 2 -3 3\nend\n",
+            "accepted Less 1",
+        ),
+        (
+            "left\nright -2 4\n",
+            "c 1\ni 3 -1\n",
+            "verdict greater\nwitness 4 -2 -1 1\nend\n",
+            "refused 7 Sign",
+        ),
+        (
+            "left\nright -2 4\n",
+            "c 1\n",
+            "verdict greater\nwitness 4 -2\nend\n",
+            "accepted Greater 1",
+        ),
+        (
+            "left\nright -2 -1 -2\n",
+            "s 1\n",
+            "verdict greater\nwitness -1 -2 -1\nend\n",
+            "accepted Greater 1",
+        ),
+    ] {
+        let file = format!(in alloc; "braid-trace 1\n{words}{steps}{end}")?;
+        let got = answer(alloc, file.as_bytes())?;
+        assert_eq!(rt; got.as_str(), want, "of {file:?}");
+    }
+    Ok(())
+}
+
+#[test]
+fn refuses_a_step_that_does_not_apply(rt: HostRuntime) -> Result<(), Fail> {
+    let alloc = rt.alloc();
+    for (words, step, want) in [
+        ("left 1\nright 1\n", "d 2", "refused 4 Step"),
+        ("left 1\nright 1\n", "i 4 1", "refused 4 Step"),
+        ("left 1\nright 1\n", "i 3 1", "refused 5 Truncated"),
+        ("left 1\nright 1\n", "i 1 256", "refused 4 Form"),
+        ("left 1\nright 1\n", "i 1", "refused 4 Form"),
+        ("left 1\nright 1\n", "d 0", "refused 4 Form"),
+        ("left\nright\n", "d 1", "refused 4 Step"),
+        ("left\nright\n", "i 1 1", "refused 5 Truncated"),
+        ("left\nright\n", "i 2 1", "refused 4 Step"),
+        ("left\nright 1 1\n", "d 1", "refused 4 Step"),
+        ("left\nright 1 2\n", "c 1", "refused 4 Step"),
+        ("left\nright 1 -2\n", "c 1", "refused 4 Step"),
+        ("left\nright 1 1\n", "c 1", "refused 4 Step"),
+        ("left\nright 1 3\n", "c 2", "refused 4 Step"),
+        ("left\nright 1 -3\n", "c 1", "refused 5 Truncated"),
+        ("left\nright 1 2 -1\n", "s 1", "refused 4 Step"),
+        ("left\nright 1 -2 1\n", "s 1", "refused 4 Step"),
+        ("left\nright 1 3 1\n", "s 1", "refused 4 Step"),
+        ("left\nright 1 2 3\n", "s 1", "refused 4 Step"),
+        ("left\nright 1 2 1\n", "s 2", "refused 4 Step"),
+        ("left\nright -1 -2 -1\n", "s 1", "refused 5 Truncated"),
+        ("left\nright 1\n", "s 4294967295", "refused 4 Step"),
+    ] {
+        let file = format!(in alloc; "braid-trace 1\n{words}{step}\n")?;
+        let got = answer(alloc, file.as_bytes())?;
+        assert_eq!(rt; got.as_str(), want, "of {file:?}");
+    }
+    Ok(())
+}
+
+#[test]
+fn refuses_each_front_of_a_trace_as_truncated(rt: HostRuntime) -> Result<(), Fail> {
+    let alloc = rt.alloc();
+    let bytes = TRACE.as_bytes();
+    for k in 0..bytes.len() {
+        let line = 1 + bytes[..k].iter().filter(|byte| **byte == b'\n').count();
+        let want = format!(in alloc; "refused {line} Truncated")?;
+        assert_eq!(rt;
+            answer(alloc, &bytes[..k])?.as_str(),
+            want.as_str(),
+            "of {k} bytes"
+        );
+    }
+    Ok(())
+}
+
+// Puts so many letters at the end of a line, and an LF.
+fn end_line(file: &mut Vec<u8>, count: usize) -> Result<(), Fail> {
+    for _ in 0..count {
+        file.extend_from_slice(b" 1")?;
+    }
+    file.push(b'\n')?;
+    Ok(())
+}
+
+// A file that begins with two words, of one letter and of so many.
+fn two_words(alloc: Global, count: usize) -> Result<Vec<u8>, Fail> {
+    let mut file = Vec::from_slice(alloc, b"braid-trace 1\nleft 1\nright")?;
+    end_line(&mut file, count)?;
+    Ok(file)
+}
+
+#[test]
+fn refuses_what_is_too_long(rt: HostRuntime) -> Result<(), Fail> {
+    let alloc = rt.alloc();
+    let fits = two_words(alloc, MAX_LETTERS - 1)?;
+    assert_eq!(rt; answer(alloc, &fits)?.as_str(), "refused 4 Truncated");
+    let mut inserted = two_words(alloc, MAX_LETTERS - 1)?;
+    inserted.extend_from_slice(b"d 1\ni 1 2\ni 1 2\n")?;
+    assert_eq!(rt; answer(alloc, &inserted)?.as_str(), "refused 6 Long");
+    let quotient = two_words(alloc, MAX_LETTERS)?;
+    assert_eq!(rt; answer(alloc, &quotient)?.as_str(), "refused 3 Long");
+    let mut form = two_words(alloc, 1)?;
+    form.extend_from_slice(b"left")?;
+    end_line(&mut form, MAX_LETTERS + 1)?;
+    assert_eq!(rt; answer(alloc, &form)?.as_str(), "refused 4 Form");
+    let mut line = Vec::from_slice(alloc, b"braid-trace 1\n")?;
+    for _ in 0..=MAX_LINE {
+        line.push(b'1')?;
+    }
+    assert_eq!(rt; answer(alloc, &line)?.as_str(), "refused 2 Long");
+    line.push(b'\n')?;
+    assert_eq!(rt; answer(alloc, &line)?.as_str(), "refused 2 Long");
+    Ok(())
+}
+
+#[test]
+fn gives_the_words_of_an_accepted_file(rt: HostRuntime) -> Result<(), Fail> {
+    let checked = check(rt.alloc(), TRACE.as_bytes())?;
+    assert_eq!(rt; checked.verdict(), Verdict::Less);
+    assert_eq!(rt; checked.steps(), 2);
+    let left = format!(in rt.alloc(); "{:?}", checked.left())?;
+    assert_eq!(rt;
+        left.as_str(),
+        "[Letter { index: 1, negative: false }, Letter { index: 2, negative: false }]"
+    );
+    let right = format!(in rt.alloc(); "{:?}", checked.right())?;
+    assert_eq!(rt;
+        right.as_str(),
+        "[Letter { index: 2, negative: false }, Letter { index: 1, negative: false }]"
+    );
+    let witness = format!(in rt.alloc(); "{:?}", checked.witness())?;
+    assert_eq!(rt;
+        witness.as_str(),
+        "[Letter { index: 1, negative: false }, Letter { index: 2, negative: true }]"
+    );
+    Ok(())
+}
