@@ -1,0 +1,12 @@
+pub mod ProductFacts
+pub mod FormFacts
+pub mod ProductLemmas
+pub mod DoublingLemmas
+pub mod DistributiveLemmas
+pub mod RowLemmas
+pub mod LaverLemmas
+pub mod PeriodLemmas
+pub mod ThresholdLemmas
+pub mod FormLemmas
+pub mod HeldLemmas
+pub mod TextLemmas

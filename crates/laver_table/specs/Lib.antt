@@ -1,0 +1,5 @@
+pub mod Product
+pub mod Table
+pub mod Period
+pub mod Form
+pub mod TableText
