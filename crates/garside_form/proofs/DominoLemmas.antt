@@ -1,0 +1,307 @@
+-- Simple braids taken in at the end of a settled product.
+--
+-- A product x0, x1, x2 that is settled at x1 is followed by x3. Where x2 is settled before x3, and then x1
+-- before what x2 has become, x2 stays settled (`settle-domino_right`): so one pass from the end to the
+-- front is enough. Were a pair e, f still to be turned there, some neighbours of x1 would have been left that
+-- x1 had to turn before x2: of the strands from f to e in x1, the last that ends on the right of this
+-- pair before one that ends on the left.
+use Rattle.std.proofs.Common.{ℕ, zero, suc, ◌≡◌, inl, inr, ◌+◌, ◌-◌, ◌<◌, ◌≤◌, ◌∙◌, List, refl, sym, ap, subst, arith}
+use Rattle.std.proofs.lemmas.Bool.{cases_lt}
+use Rattle.perm_braid.specs.Arrangements.{entry, place_of, swapped, values_swapped, identity, IsOrder}
+use Rattle.perm_braid.specs.GreedyPairs.{IsGreedy, IsMove, Moves, done, move}
+use Rattle.perm_braid.proofs.PlaceLemmas.{place_low, IsOrder-entry, IsOrder-identity}
+use Rattle.perm_braid.proofs.SwapLemmas.{IsOrder-swapped, IsOrder-values_swapped}
+use Rattle.perm_braid.proofs.SortingLemmas.{entries_rise}
+use Rattle.perm_braid.proofs.SimpleWordLemmas.{swapped-map}
+use Rattle.perm_braid.proofs.MoveLemmas.{IsOrder-moves_first, IsOrder-moves_second}
+use Rattle.garside_form.proofs.SortLemmas.{Leads, done as leads_done, turn}
+use Rattle.garside_form.proofs.ComposedLemmas.{composed, entry-composed, IsOrder-composed, place_of-composed, composed-swapped}
+use Rattle.garside_form.proofs.UniqueLemmas.{greedy_settled}
+use Rattle.garside_form.proofs.SettleLemmas.{IsBefore, IsStrand, strand_same, before_or, before_differ, neighbours_before, descends, descends_from, settle, IsSettled, IsOrder-settle, IsSettled-settle, settle-is, settle-turned, IsSettled-from, settled_at}
+
+-- Neighbours of x of which the first is past the place i of y, and the second isn't.
+pub record Falls (x y : List ℕ) (i first last k : ℕ) : Type 0 where
+  pub low : first ≤ k
+  pub high : k < last
+  pub right : i < place_of y (entry x k)
+  pub left : place_of y (entry x (k + 1)) ≤ i
+
+-- there are such neighbours between a first that is past that place and a last that isn't
+falls_exists
+    : (x y : List ℕ) (i first last d k : ℕ)
+    → k + d ≡ last
+    → first ≤ k
+    → i < place_of y (entry x k)
+    → place_of y (entry x last) ≤ i
+    → (m : ℕ) × Falls x y i first last m
+falls_exists x y i first last zero k at low right left =
+    let e : k ≡ last = omega (arith, at) in
+    let same : place_of y (entry x k) ≡ place_of y (entry x last) = ap (λ m. place_of y (entry x m)) e in
+    absurd (omega (arith, same, right, left))
+falls_exists x y i first last (suc d) k at low right left = elim (cases_lt i (place_of y (entry x (k + 1)))) [
+  | inl more ↦ falls_exists x y i first last d (k + 1) (omega (arith, at)) (omega arith) more left
+  | inr here ↦ (k, record { low = low; high = omega (arith, at); right = right; left = here })
+]
+
+-- of two strands the one that stands no further on stands first
+before_from
+    : {n : ℕ} {a : List ℕ}
+    → IsOrder n a
+    → (e f : ℕ)
+    → IsStrand n e
+    → IsStrand n f
+    → (e ≡ f → ⊥)
+    → place_of a e ≤ place_of a f
+    → IsBefore a e f
+before_from order e f one two other less = elim (before_or order e f one two other) [
+  | inl right ↦ right
+  | inr wrong ↦ absurd (other (strand_same order e f one two (omega arith)))
+]
+
+-- x2, settled before x3, stays settled where x1 is settled before it
+pub settle-domino_right
+    : {n : ℕ} {o x y z : List ℕ}
+    → IsOrder n o
+    → IsOrder n x
+    → IsOrder n y
+    → IsOrder n z
+    → IsSettled o x y
+    → IsSettled (settle o x (settle x y z)) (settle x y z) z
+settle-domino_right {n} {o} {x} {y} {z} in_o in_x in_y in_z settled =
+    IsSettled-from (settle o x t) z in_t at
+  where
+    t : List ℕ
+    t = settle x y z
+
+    in_t : IsOrder n t
+    in_t = IsOrder-settle x z in_y
+
+    at : (i : ℕ) → 1 ≤ i → i < n → IsBefore (settle o x t) (entry t i) (entry t (i + 1))
+        → IsBefore z (entry t (i + 1)) (entry t i) → ⊥
+    at i low high before after =
+        let e = entry t i in
+        let f = entry t (i + 1) in
+        let one = in_t.within i low (omega arith) in
+        let two = in_t.within (i + 1) (omega arith) (omega arith) in
+        let at_e = in_t.distinct i low (omega arith) in
+        let at_f = in_t.distinct (i + 1) (omega arith) (omega arith) in
+        let now = neighbours_before in_t i low high in
+        let crossed : IsBefore x f e = elim (before_or in_x e f one two (before_differ t e f now)) [
+          | inl wrong ↦ absurd (settled_at x z in_t (IsSettled-settle x y z) i low high wrong after)
+          | inr right ↦ right
+        ] in
+        let open_y : IsBefore y e f = elim (settle-turned x z in_y f e two one now) [
+          | inl right ↦ right
+          | inr both ↦ absurd (omega (arith, both, after))
+        ] in
+        let first = place_of x f in
+        let last = place_of x e in
+        let back_e = IsOrder-entry in_x e one.0 one.1 in
+        let back_f = IsOrder-entry in_x f two.0 two.1 in
+        let begins : i < place_of t (entry x first) = rw back_f (omega (arith, at_f)) in
+        let ends : place_of t (entry x last) ≤ i = rw back_e (omega (arith, at_e)) in
+        let (k, falls) = falls_exists x t i first last (last - first) first (omega (arith, crossed))
+        (omega arith) begins ends in
+        let low_k : 1 ≤ k = omega (arith, place_low x f, falls.low) in
+        let most = in_x.has e one.0 one.1 in
+        let high_k : k < n = omega (arith, falls.high, most) in
+        let a = entry x k in
+        let b = entry x (k + 1) in
+        let is_a = in_x.within k low_k (omega arith) in
+        let is_b = in_x.within (k + 1) (omega arith) (omega arith) in
+        let at_a = in_x.distinct k low_k (omega arith) in
+        let at_b = in_x.distinct (k + 1) (omega arith) (omega arith) in
+        let x_b : (b ≡ e → ⊥) → IsBefore x b e =
+        λ other. before_from in_x b e is_b one other (omega (arith, at_b, falls.high)) in
+        let t_b : (b ≡ e → ⊥) → IsBefore t b e =
+        λ other. before_from in_t b e is_b one other (omega (arith, falls.left, at_e)) in
+        let x_a : (f ≡ a → ⊥) → IsBefore x f a =
+        λ other. before_from in_x f a two is_a other (omega (arith, at_a, falls.low)) in
+        let t_a : (f ≡ a → ⊥) → IsBefore t f a =
+        λ other. before_from in_t f a two is_a other (omega (arith, falls.right, at_f)) in
+        let y_b : IsBefore y e b → ⊥ = λ wrong.
+        let other = λ (same : b ≡ e). before_differ y e b wrong (sym same) in
+        let in_left = x_b other in
+        elim (settle-turned x z in_y e b one is_b (t_b other)) [
+          | inl right ↦ absurd (omega (arith, right, wrong))
+          | inr both ↦ absurd (omega (arith, both, in_left))
+        ] in
+        let y_a : IsBefore y a f → ⊥ = λ wrong.
+        let other = λ (same : f ≡ a). before_differ y a f wrong (sym same) in
+        let in_left = x_a other in
+        elim (settle-turned x z in_y a f is_a two (t_a other)) [
+          | inl right ↦ absurd (omega (arith, right, wrong))
+          | inr both ↦ absurd (omega (arith, both, in_left))
+        ] in
+        let s_b : IsBefore (settle o x t) e b → ⊥ = λ wrong.
+        let other = λ (same : b ≡ e). before_differ (settle o x t) e b wrong (sym same) in
+        let in_left = x_b other in
+        let in_right = t_b other in
+        elim (settle-turned o t in_x b e is_b one wrong) [
+          | inl right ↦ absurd (omega (arith, right, in_left))
+          | inr both ↦ absurd (omega (arith, both, in_right))
+        ] in
+        let s_a : IsBefore (settle o x t) a f → ⊥ = λ wrong.
+        let other = λ (same : f ≡ a). before_differ (settle o x t) a f wrong (sym same) in
+        let in_left = x_a other in
+        let in_right = t_a other in
+        elim (settle-turned o t in_x f a two is_a wrong) [
+          | inl right ↦ absurd (omega (arith, right, in_left))
+          | inr both ↦ absurd (omega (arith, both, in_right))
+        ] in
+        let turned_y : IsBefore y b a = omega (arith, y_a, y_b, open_y) in
+        let turned_s : IsBefore (settle o x t) b a = omega (arith, s_a, s_b, before) in
+        let in_front : IsBefore o a b = elim (settle-turned o t in_x a b is_a is_b turned_s) [
+          | inl wrong ↦ absurd (omega (arith, wrong, at_a, at_b))
+          | inr both ↦ both.0
+        ] in
+        settled_at o y in_x settled k low_k high_k in_front turned_y
+
+-- ---- Pairs made greedy ----
+
+-- What moves make of the orders of two simple braids: the one between is settled, and the last stays.
+pub record IsTaken (x p q r s : List ℕ) : Type 0 where
+  pub leads : Leads (descends x (composed (composed x p) q)) (composed x p) (composed x r)
+  pub end : composed (composed x r) s ≡ composed (composed x p) q
+
+-- one move exchanges neighbours of the order between
+taken_first
+    : {n : ℕ} {p q r s : List ℕ} (x : List ℕ) (i : ℕ)
+    → IsOrder n x
+    → IsOrder n p
+    → IsOrder n q
+    → IsMove n p q i
+    → IsTaken x (swapped i p) (values_swapped i q) r s
+    → IsTaken x p q r s
+taken_first {n} {p} {q} {r} {s} x i in_x in_p in_q is later = record {
+  leads = turn i (i + 1) is.low refl (omega (arith, in_y.size, is.high))
+      (descends_from x (composed y q) (entry y i) (entry y (i + 1)) rises falls) onward;
+  end = later.end ∙ same;
+}
+  where
+    y : List ℕ
+    y = composed x p
+
+    in_y : IsOrder n y
+    in_y = IsOrder-composed in_x in_p
+
+    swaps : composed x (swapped i p) ≡ swapped i y
+    swaps = sym (swapped-map (entry x) i p)
+
+    same : composed (composed x (swapped i p)) (values_swapped i q) ≡ composed y q
+    same = rw swaps (composed-swapped in_y in_q i is.low is.high)
+
+    onward : Leads (descends x (composed y q)) (swapped i y) (composed x r)
+    onward = subst (λ z. Leads (descends x z) (swapped i y) (composed x r)) same
+        (subst (λ c. Leads (descends x (composed (composed x (swapped i p)) (values_swapped i q))) c
+        (composed x r)) swaps later.leads)
+
+    rises : IsBefore x (entry y i) (entry y (i + 1))
+    rises =
+        let here = entry-composed x in_p i is.low (omega (arith, is.high)) in
+        let next = entry-composed x in_p (i + 1) (omega arith) (omega (arith, is.high)) in
+        let one = in_p.within i is.low (omega (arith, is.high)) in
+        let two = in_p.within (i + 1) (omega arith) (omega (arith, is.high)) in
+        let at_here = in_x.distinct (entry p i) one.0 one.1 in
+        let at_next = in_x.distinct (entry p (i + 1)) two.0 two.1 in
+        let up = entries_rise in_p i is.low is.high is.right in
+        rw (here, next) (omega (arith, at_here, at_next, up))
+
+    falls : IsBefore (composed y q) (entry y (i + 1)) (entry y i)
+    falls =
+        let here = place_of-composed in_y in_q i is.low (omega (arith, is.high)) in
+        let next = place_of-composed in_y in_q (i + 1) (omega arith) (omega (arith, is.high)) in
+        omega (arith, here, next, is.left)
+
+-- moves exchange neighbours of the order between
+pub taken_moves
+    : {n : ℕ} {p q r s : List ℕ} (x : List ℕ)
+    → IsOrder n x
+    → IsOrder n p
+    → IsOrder n q
+    → Moves n p q r s
+    → IsTaken x p q r s
+taken_moves x in_x in_p in_q done = record { leads = leads_done; end = refl }
+taken_moves x in_x in_p in_q (move i is rest) =
+    taken_first x i in_x in_p in_q is
+    (taken_moves x in_x (IsOrder-swapped in_p i is.low is.high) (IsOrder-values_swapped in_q i is.low is.high) rest)
+
+-- a pair made greedy by moves: the order between is settled
+pub composed-greedy
+    : {n : ℕ} {p q r s : List ℕ} (x : List ℕ)
+    → IsOrder n x
+    → IsOrder n p
+    → IsOrder n q
+    → Moves n p q r s
+    → IsGreedy n r s
+    → settle x (composed x p) (composed (composed x p) q) ≡ composed x r
+composed-greedy {n} {p} {q} {r} {s} x in_x in_p in_q moves greedy =
+    let taken = taken_moves x in_x in_p in_q moves in
+    let settled = greedy_settled in_x (IsOrder-moves_first in_p moves) (IsOrder-moves_second in_q moves) greedy in
+    settle-is x (composed x p) (composed x r) (composed (composed x p) q) taken.leads
+    (subst (λ z. IsSettled x (composed x r) z) taken.end settled)
+
+-- a settled order is that between a greedy pair
+pub IsGreedy-settled
+    : {n : ℕ} {x p q : List ℕ}
+    → IsOrder n x
+    → IsOrder n p
+    → IsOrder n q
+    → IsSettled x (composed x p) (composed (composed x p) q)
+    → IsGreedy n p q
+IsGreedy-settled {n} {x} {p} {q} in_x in_p in_q settled i low high left = elim (cases_lt (entry p (i + 1)) (entry p i)) [
+  | inl down ↦ down
+  | inr up ↦
+      let in_y = IsOrder-composed in_x in_p in
+      let here = entry-composed x in_p i low (omega arith) in
+      let next = entry-composed x in_p (i + 1) (omega arith) (omega arith) in
+      let one = in_p.within i low (omega arith) in
+      let two = in_p.within (i + 1) (omega arith) (omega arith) in
+      let at_here = in_x.distinct (entry p i) one.0 one.1 in
+      let at_next = in_x.distinct (entry p (i + 1)) two.0 two.1 in
+      let rises = entries_rise in_p i low high (λ down. absurd (omega arith)) in
+      let before : IsBefore x (entry (composed x p) i) (entry (composed x p) (i + 1)) =
+      rw (here, next) (omega (arith, at_here, at_next, rises)) in
+      let place_here = place_of-composed in_y in_q i low (omega arith) in
+      let place_next = place_of-composed in_y in_q (i + 1) (omega arith) (omega arith) in
+      let after : IsBefore (composed (composed x p) q) (entry (composed x p) (i + 1)) (entry (composed x p) i)
+      = omega (arith, place_here, place_next, left) in
+      absurd (settled_at x (composed (composed x p) q) in_y settled i low high before after)
+]
+
+-- Where the pair p, q was made greedy and then the pair before it, the later one stays greedy: one pass
+-- from the end to the front makes a list of simple braids normal.
+pub IsGreedy-domino_right
+    : {n : ℕ} {o p q r s t u : List ℕ}
+    → IsOrder n o
+    → IsOrder n p
+    → IsOrder n q
+    → IsGreedy n o p
+    → Moves n p q r s
+    → IsGreedy n r s
+    → Moves n o r t u
+    → IsGreedy n t u
+    → IsGreedy n u s
+IsGreedy-domino_right {n} {o} {p} {q} {r} {s} {t} {u} in_o in_p in_q greedy moves made moves_on made_on =
+    let x = identity n in
+    let in_x = IsOrder-identity n in
+    let y = composed x o in
+    let in_y = IsOrder-composed in_x in_o in
+    let in_r = IsOrder-moves_first in_p moves in
+    let in_s = IsOrder-moves_second in_q moves in
+    let in_t = IsOrder-moves_first in_o moves_on in
+    let in_u = IsOrder-moves_second in_r moves_on in
+    let z = composed y p in
+    let in_z = IsOrder-composed in_y in_p in
+    let e = composed z q in
+    let in_e = IsOrder-composed in_z in_q in
+    let first = greedy_settled in_x in_o in_p greedy in
+    let second : settle y z e ≡ composed y r = composed-greedy y in_y in_p in_q moves made in
+    let third : settle x y (composed y r) ≡ composed x t = composed-greedy x in_x in_o in_r moves_on made_on in
+    let fourth : composed (composed x t) u ≡ composed y r = (taken_moves x in_x in_o in_r moves_on).end in
+    let fifth : composed (composed y r) s ≡ e = (taken_moves y in_y in_p in_q moves).end in
+    let domino : IsSettled (settle x y (settle y z e)) (settle y z e) e = settle-domino_right in_x in_y in_z in_e first in
+    let placed : IsSettled (composed x t) (composed y r) e = rw (second, third) at domino in
+    let turned : IsSettled (composed x t) (composed (composed x t) u) (composed (composed (composed x t) u) s) =
+    rw (fourth, fifth) placed in
+    IsGreedy-settled (IsOrder-composed in_x in_t) in_u in_s turned

@@ -1,0 +1,16 @@
+pub mod SortLemmas
+pub mod SettleLemmas
+pub mod LevelLemmas
+pub mod WordLevelLemmas
+pub mod EquivalentLevelLemmas
+pub mod ComposedLemmas
+pub mod UniqueLemmas
+pub mod DeltaLemmas
+pub mod DominoLemmas
+pub mod FactorLemmas
+pub mod PassLemmas
+pub mod RawLemmas
+pub mod StripLemmas
+pub mod ListLemmas
+pub mod NormalLemmas
+pub mod NormalTextLemmas

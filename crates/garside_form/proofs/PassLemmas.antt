@@ -1,0 +1,171 @@
+-- One pass from the end of a list of simple braids to its front.
+--
+-- A greedy list takes in one simple braid more at its end. At each time the list is a front that wasn't
+-- touched, the factor at which the pass stands, and the rest, which is greedy with this factor (`IsPass`).
+-- Each turn makes the last of the front and the factor greedy (`IsPass-step`); where that moves nothing, or
+-- the front is empty, the whole is greedy.
+use Rattle.std.proofs.Common.{ℕ, ◌≡◌, ◌∙◌, List, [], ◌∷◌, ◌++◌, length, append_assoc, refl, ap, subst, arith}
+use Rattle.perm_braid.specs.Arrangements.{IsOrder}
+use Rattle.perm_braid.specs.GreedyPairs.{IsGreedy, Moves}
+use Rattle.perm_braid.proofs.MoveLemmas.{IsOrder-moves_first, IsOrder-moves_second, KeepsProduct-moves}
+use Rattle.garside_form.proofs.DominoLemmas.{IsGreedy-domino_right}
+use Rattle.garside_form.specs.FactorLists.{EachOrder, KeepsFactors, AreGreedy}
+use Rattle.garside_form.proofs.FactorLemmas.{KeepsFactors-refl, KeepsFactors-trans, KeepsFactors-pair, AreGreedy-append}
+
+-- ---- Fronts ----
+
+-- the orders of a front and of its last
+pub orders_append : (n : ℕ) (front ps : List (List ℕ)) → EachOrder n front → EachOrder n ps → EachOrder n (front ++ ps)
+orders_append n [] ps first second = second
+orders_append n (p ∷ front) ps first second = (first.0, orders_append n front ps first.1 second)
+
+pub orders_front : (n : ℕ) (front ps : List (List ℕ)) → EachOrder n (front ++ ps) → EachOrder n front
+orders_front n [] ps all = tt
+orders_front n (p ∷ front) ps all = (all.0, orders_front n front ps all.1)
+
+pub orders_back : (n : ℕ) (front ps : List (List ℕ)) → EachOrder n (front ++ ps) → EachOrder n ps
+orders_back n [] ps all = all
+orders_back n (p ∷ front) ps all = orders_back n front ps all.1
+
+-- a front of a greedy list is greedy
+pub greedy_front : (n : ℕ) (front ps : List (List ℕ)) → AreGreedy n (front ++ ps) → AreGreedy n front
+greedy_front n [] ps greedy = tt
+greedy_front n (p ∷ []) ps greedy = tt
+greedy_front n (p ∷ q ∷ front) ps greedy = (greedy.0, greedy_front n (q ∷ front) ps greedy.1)
+
+-- so is its last pair
+pub greedy_last
+    : (n : ℕ) (front : List (List ℕ)) (p q : List ℕ) (ps : List (List ℕ))
+    → AreGreedy n (front ++ p ∷ q ∷ ps)
+    → IsGreedy n p q
+greedy_last n [] p q ps greedy = greedy.0
+greedy_last n (r ∷ []) p q ps greedy = greedy.1.0
+greedy_last n (r ∷ s ∷ front) p q ps greedy = greedy_last n (s ∷ front) p q ps greedy.1
+
+-- a list behind a front and one more
+pub behind_one
+    : (front : List (List ℕ)) (p : List ℕ) (ps : List (List ℕ))
+    → (front ++ p ∷ []) ++ ps ≡ front ++ p ∷ ps
+behind_one front p ps = append_assoc front (p ∷ []) ps
+
+-- ---- The pass ----
+
+-- How the factor and the next came to be: of a factor that was greedy behind the last of the front.
+pub record CameOf (n : ℕ) (o carry s : List ℕ) : Type 0 where
+  pub p : List ℕ
+  pub q : List ℕ
+  pub in_p : IsOrder n p
+  pub in_q : IsOrder n q
+  pub greedy : IsGreedy n o p
+  pub moves : Moves n p q carry s
+
+-- So where there is both a last of the front and a next.
+abbrev pub Came : ℕ → List (List ℕ) → List ℕ → List (List ℕ) → Type 0
+Came n front carry rest =
+    (f ss : List (List ℕ)) (o s : List ℕ) → front ≡ f ++ o ∷ [] → rest ≡ s ∷ ss → CameOf n o carry s
+
+-- Where the pass stands: the list from which it began has the product of the front, the factor and the rest.
+pub record IsPass (n : ℕ) (start front : List (List ℕ)) (carry : List ℕ) (rest : List (List ℕ)) : Type 0 where
+  pub in_front : EachOrder n front
+  pub in_carry : IsOrder n carry
+  pub in_rest : EachOrder n rest
+  pub keeps : KeepsFactors n start (front ++ carry ∷ rest)
+  pub front_greedy : AreGreedy n front
+  pub rest_greedy : AreGreedy n (carry ∷ rest)
+  pub came : Came n front carry rest
+
+-- nothing is next in an empty rest
+nothing_next : (s : List ℕ) (ss : List (List ℕ)) → [] ≡ s ∷ ss → ⊥
+nothing_next s ss is = let long : 0 ≡ length (s ∷ ss) = ap length is in absurd (omega arith)
+
+-- it begins behind a greedy list
+pub IsPass-begin
+    : (n : ℕ) (front : List (List ℕ)) (carry : List ℕ)
+    → EachOrder n front
+    → IsOrder n carry
+    → AreGreedy n front
+    → IsPass n (front ++ carry ∷ []) front carry []
+IsPass-begin n front carry orders order greedy = record {
+  in_front = orders;
+  in_carry = order;
+  in_rest = tt;
+  keeps = KeepsFactors-refl n (front ++ carry ∷ []);
+  front_greedy = greedy;
+  rest_greedy = tt;
+  came = λ f ss o s is_front is_rest. absurd (nothing_next s ss is_rest);
+}
+
+-- what the pass leaves behind it stays greedy
+pass_rest
+    : (n : ℕ) (start f : List (List ℕ)) (o carry t u : List ℕ) (rest : List (List ℕ))
+    → IsPass n start (f ++ o ∷ []) carry rest
+    → IsOrder n o
+    → Moves n o carry t u
+    → IsGreedy n t u
+    → AreGreedy n (t ∷ u ∷ rest)
+pass_rest n start f o carry t u [] pass in_o moves greedy = (greedy, tt)
+pass_rest n start f o carry t u (s ∷ ss) pass in_o moves greedy =
+    let from = pass.came f ss o s refl refl in (
+      greedy,
+      (
+        IsGreedy-domino_right in_o from.in_p from.in_q from.greedy from.moves pass.rest_greedy.0 moves greedy,
+        pass.rest_greedy.1,
+      ),
+    )
+
+-- one turn: the last of the front and the factor were made greedy
+pub IsPass-step
+    : (n : ℕ) (start f : List (List ℕ)) (o carry t u : List ℕ) (rest : List (List ℕ))
+    → IsPass n start (f ++ o ∷ []) carry rest
+    → Moves n o carry t u
+    → IsGreedy n t u
+    → IsPass n start f t (u ∷ rest)
+IsPass-step n start f o carry t u rest pass moves greedy = record {
+  in_front = orders_front n f (o ∷ []) pass.in_front;
+  in_carry = IsOrder-moves_first in_o moves;
+  in_rest = (IsOrder-moves_second pass.in_carry moves, pass.in_rest);
+  keeps = KeepsFactors-trans n start (f ++ o ∷ carry ∷ rest) (f ++ t ∷ u ∷ rest) orders before after;
+  front_greedy = greedy_front n f (o ∷ []) pass.front_greedy;
+  rest_greedy = pass_rest n start f o carry t u rest pass in_o moves greedy;
+  came = came;
+}
+  where
+    in_o : IsOrder n o
+    in_o = (orders_back n f (o ∷ []) pass.in_front).0
+
+    orders : EachOrder n (f ++ o ∷ carry ∷ rest)
+    orders = orders_append n f (o ∷ carry ∷ rest) (orders_front n f (o ∷ []) pass.in_front)
+        (in_o, (pass.in_carry, pass.in_rest))
+
+    before : KeepsFactors n start (f ++ o ∷ carry ∷ rest)
+    before = subst (λ l. KeepsFactors n start l) (behind_one f o (carry ∷ rest)) pass.keeps
+
+    after : KeepsFactors n (f ++ o ∷ carry ∷ rest) (f ++ t ∷ u ∷ rest)
+    after = KeepsFactors-pair n f o carry t u rest (KeepsProduct-moves in_o pass.in_carry moves)
+
+    came : Came n f t (u ∷ rest)
+    came g ss p s is_front is_rest = record {
+      p = o;
+      q = carry;
+      in_p = in_o;
+      in_q = pass.in_carry;
+      greedy = greedy_last n g p o [] (subst (λ l. AreGreedy n l)
+          (ap (λ l. l ++ o ∷ []) is_front ∙ behind_one g p (o ∷ [])) pass.front_greedy);
+      moves = subst (λ r. Moves n o carry t r) (head_same is_rest) moves;
+    }
+      where
+        head_same : {a b : List ℕ} {l m : List (List ℕ)} → a ∷ l ≡ b ∷ m → a ≡ b
+        head_same {a} {b} is = ap (head_or a) is
+          where
+            head_or : List ℕ → List (List ℕ) → List ℕ
+            head_or d [] = d
+            head_or d (x ∷ xs) = x
+
+-- where the last of the front and the factor were greedy, the whole is
+pub IsPass-stops
+    : (n : ℕ) (start f : List (List ℕ)) (o carry : List ℕ) (rest : List (List ℕ))
+    → IsPass n start (f ++ o ∷ []) carry rest
+    → IsGreedy n o carry
+    → AreGreedy n (f ++ o ∷ carry ∷ rest)
+IsPass-stops n start f o carry rest pass greedy =
+    AreGreedy-append n f o carry rest pass.front_greedy greedy pass.rest_greedy

@@ -1,0 +1,4 @@
+pub mod NormalForms
+pub mod FactorLists
+pub mod FirstOutside
+pub mod NormalText

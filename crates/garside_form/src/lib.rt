@@ -1,0 +1,16 @@
+//! Normal forms of braids: two words are equivalent exactly where theirs are one.
+#![tactic(auto)]
+
+mod error;
+mod form;
+mod lists;
+mod make;
+mod raw;
+#[cfg(test)]
+mod tests;
+mod writer;
+
+pub use error::NormalErr;
+pub use form::{NormalForm, same};
+pub use make::normal;
+pub use writer::put_normal;

@@ -1,0 +1,79 @@
+ghost use Rattle.std.specs.Prelude.{◌≡◌, ◌+◌, ◌-◌, ◌<◌, ◌≤◌, ◌↔◌, ℕ, pos, negsuc, length, IfOk, OnOk, IfSome, IfNone, Err};
+ghost use Rattle.braid_word.specs.Words.{IsOn};
+ghost use Rattle.garside_form.specs.NormalForms.{Form, IsFormOf};
+ghost use Rattle.garside_form.specs.FirstOutside.{IsFirstOutside};
+ghost use Rattle.garside_form.specs.declared.error.NormalErr.TheVariants.{Strands};
+
+use crate::error::NormalErr;
+use crate::form::NormalForm;
+use crate::lists::{greedy_list, strip_half_turns};
+use crate::raw::letter_factors;
+use braid_word::Letter;
+use std::alloc::{AllocError, Global};
+
+// The first letter whose index is n or more.
+fn first_outside(word: &[Letter], n: u32) -> Option<usize>
+    ensures found { IfSome result (λ k. IsFirstOutside n word.now (k + 1) × (k < length word.now)) }
+    ensures none { IfNone result (IsOn n word.now) }
+{
+    for k in 0..word.len() {
+        let letter = word[k];
+        if n <= u32::from(letter.index()) {
+            return Some(k);
+        }
+    }
+    None
+}
+
+// The first number less the second.
+fn difference(a: u32, b: u32) -> i32
+    requires first { a ≤ 100000 }
+    requires second { b ≤ 100000 }
+    ensures up { b ≤ a → result ≡ pos (a - b) }
+    ensures down { a < b → result ≡ negsuc (b - a - 1) }
+{
+    if b <= a {
+        (a - b) as i32
+    } else {
+        -((b - a) as i32)
+    }
+}
+
+// The normal form of a word on n strands.
+fn normal_on(alloc: Global, word: &[Letter], n: u32) -> Result<NormalForm, AllocError>
+    requires low { 2 ≤ n }
+    requires high { n ≤ 64 }
+    requires most { length word.now ≤ 100000 }
+    requires on { IsOn n word.now }
+    ensures strands { IfOk result (λ f. f.strands ≡ n) }
+    ensures form { IfOk result (λ f. IsFormOf f word.now) }
+{
+    let mut raw = Vec::new(alloc);
+    let inverses = letter_factors(alloc, word, n, &mut raw)?;
+    let mut factors = greedy_list(alloc, raw)?;
+    let turns = strip_half_turns(alloc, &mut factors)?;
+    Ok(NormalForm::of(n, difference(turns, inverses), factors))
+}
+
+/// The normal form of a word on n strands.
+///
+/// It is refused with the place, counted from 1, of the first letter whose index is n or more, exactly where
+/// there is one. The simple braids of the letters are taken in one by one, after Epstein and others, Word
+/// Processing in Groups, chapter 9.
+pub fn normal(alloc: Global, word: &[Letter], n: u32) -> Result<NormalForm, NormalErr>
+    requires low { 2 ≤ n }
+    requires high { n ≤ 64 }
+    requires most { length word.now ≤ 100000 }
+    ensures strands { IfOk result (λ f. f.strands ≡ n) }
+    ensures form { IfOk result (λ f. IsFormOf f word.now) }
+    ensures only { IfOk result (λ f. (g : Form) → g.strands ≡ n → IsFormOf g word.now → g ≡ f) }
+    ensures on { OnOk result (IsOn n word.now) }
+    ensures refused { (place : ℕ) → (result ≡ Err (Strands place)) ↔ IsFirstOutside n word.now place }
+{
+    if let Some(k) = first_outside(word, n) {
+        return Err(NormalErr::Strands {
+            place: k as u32 + 1,
+        });
+    }
+    Ok(normal_on(alloc, word, n)?)
+}

@@ -1,0 +1,8 @@
+use Rattle.perm_braid.proofs.EntryLemmas.{Exchanged-half_turn}
+use Rattle.perm_braid.proofs.perm.Perm.delta.Goals as goal
+
+pub invariant_of-result : goal.invariant_of-result
+invariant_of-result c =
+    let made = Exchanged-half_turn c.requires.low c.requires.high c.in_ok-entries.ensures.items
+    c.in_ok-places.ensures.items in
+    (made.arrangement, made.places)
