@@ -1,0 +1,9 @@
+pub mod TermLemmas
+pub mod ReadingLemmas
+pub mod PieceLemmas
+pub mod HeldLemmas
+pub mod ShapeLemmas
+pub mod TreeLemmas
+pub mod DefinitionLemmas
+pub mod TextLemmas
+pub mod LawLemmas

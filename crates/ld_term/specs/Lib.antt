@@ -1,0 +1,10 @@
+pub mod Terms
+pub mod Written
+pub mod Tokens
+pub mod Grammar
+pub mod Automaton
+pub mod Held
+pub mod Reads
+pub mod Refusals
+pub mod TreeTexts
+pub mod TermTexts
