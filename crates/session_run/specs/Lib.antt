@@ -1,0 +1,6 @@
+pub mod CommandLines
+pub mod Jobs
+pub mod Replies
+pub mod ReplyText
+pub mod Keeping
+pub mod OwnLines
