@@ -2,88 +2,34 @@
 --
 -- The program answers something to any words and any input (`out-total`): a run is over after as many
 -- turns as it may reduce handles, and its sign isn't mixed.
-use Rattle.std.proofs.Common.{◌≡◌, ℕ, ◌+◌, ◌<◌, ◌≤◌, List, [], ◌∷◌, ◌++◌, length, drop, Option, Some, None, IfSome, codes, refl, ap, sym, subst, ◌∙◌, zero-add, inl, inr, arith}
+use Rattle.std.proofs.Common.{◌≡◌, ◌≢◌, ℕ, Bool, true, false, not, cond, ltb, ◌&&◌, ◌+◌, ◌<◌, ◌≤◌, List, [], ◌∷◌, ◌++◌, length, drop, Option, Some, None, Result, Ok, Err, IfSome, codes, refl, ap, sym, subst, ◌∙◌, zero-add, arith}
 use Rattle.std.specs.Option.{option_map}
-use Rattle.std.proofs.lemmas.Bool.{lt-ltb, le-ltb, cases_lt}
+use Rattle.std.proofs.lemmas.Bool.{lt-ltb, le-ltb, ltb-false, and_parts, and_from}
+use Rattle.wb_base.specs.Lines.{line}
+use Rattle.free_word.specs.FreeWords.{Gen, gen}
+use Rattle.free_word.specs.FreeText.{free_text}
+use Rattle.artin_laws.specs.Action.{act, ImagesFit}
 use Rattle.std.proofs.lemmas.List.{append-nil, drop_at, drop_all, length-append}
 use Rattle.wb_base.specs.Streams.{ReadsAll, Skips}
-use Rattle.wb_base.specs.Lines.{lines_of}
 use Rattle.wb_base.specs.declared.status.Status.{Status}
-use Rattle.wb_base.specs.declared.status.Status.TheVariants.{Words, ReadFault, Memory}
+use Rattle.wb_base.specs.declared.status.Status.TheVariants.{Done, Words, ReadFault, Memory}
 use Rattle.braid_word.specs.Words.{Letter, quotient}
-use Rattle.braid_word.specs.Notation.{word_of}
 use Rattle.braid_word.specs.declared.sign.Sign.{Sign}
 use Rattle.braid_word.specs.declared.sign.Sign.TheVariants.{Empty, Positive, Negative, Mixed}
-use Rattle.handle_reduce.specs.Runs.{RunState, LimitedRun, IsRunAfter, begun, run_after}
+use Rattle.handle_reduce.specs.Runs.{RunState, LimitedRun, IsRunAfter, run_after}
 use Rattle.handle_reduce.specs.declared.progress.Progress.{Progress}
 use Rattle.handle_reduce.specs.declared.progress.Progress.TheVariants as progress
-use Rattle.handle_reduce.proofs.RunLemmas.{run_after-ended, turns-ended}
+use Rattle.handle_reduce.proofs.RunLemmas.{run_after-ended, run_after-long}
 use Rattle.handle_reduce.proofs.SignOfReduced.{run_after-Mixed}
 use Rattle.wb_top.specs.declared.TheConstants.{MAX_INPUT}
 use Rattle.wb_top.specs.declared.command.Command.{Command}
-use Rattle.wb_top.specs.declared.command.Command.TheVariants.{Compare}
+use Rattle.wb_top.specs.declared.command.Command.TheVariants.{Compare, Check, Act, Laver, Row, Bench}
+use Rattle.wb_top.specs.declared.input.Fault.{Fault}
+use Rattle.wb_top.specs.Inputs.{two_words}
+use Rattle.braid_word.specs.declared.TheConstants.{MAX_INDEX}
 use Rattle.trace_format.specs.Verdicts.{verdict_of}
-use Rattle.wb_top.specs.Commands.{command_of}
-use Rattle.wb_top.specs.Answers.{Answer, limit_met, ended, compared, word_in, both_words, words_of_lines, two_words, compared_words, out_of_short, out_of, out_of_words, out, Told, IsTold}
-
--- ---- The words of an input ----
-
--- an input without a line
-pub two_words-none : (input : List ℕ) (all : List (List ℕ)) → all ≡ lines_of input → all ≡ [] → two_words input ≡ None
-unfolding two_words
-two_words-none input all is none = ap words_of_lines (sym is ∙ none)
-
--- of one line
-pub two_words-one
-    : (input : List ℕ) (all rest : List (List ℕ)) (a : List ℕ)
-    → all ≡ lines_of input
-    → all ≡ a ∷ rest
-    → rest ≡ []
-    → two_words input ≡ None
-unfolding two_words
-two_words-one input all rest a is first none = ap words_of_lines (sym is ∙ first ∙ ap (λ l. a ∷ l) none)
-
--- of more than two
-pub two_words-more
-    : (input : List ℕ) (all rest last more : List (List ℕ)) (a b c : List ℕ)
-    → all ≡ lines_of input
-    → all ≡ a ∷ rest
-    → rest ≡ b ∷ last
-    → last ≡ c ∷ more
-    → two_words input ≡ None
-unfolding two_words
-two_words-more input all rest last more a b c is first second third =
-    ap words_of_lines (sym is ∙ first ∙ ap (λ l. a ∷ l) (second ∙ ap (λ l. b ∷ l) third))
-
--- of two, by what the words of these are
-pub two_words-two
-    : (input : List ℕ) (all rest last : List (List ℕ)) (a b : List ℕ) (u v : Option (List Letter))
-    → all ≡ lines_of input
-    → all ≡ a ∷ rest
-    → rest ≡ b ∷ last
-    → last ≡ []
-    → u ≡ word_in (word_of a)
-    → v ≡ word_in (word_of b)
-    → two_words input ≡ both_words u v
-unfolding two_words
-two_words-two input all rest last a b u v is first second none left right =
-    ap words_of_lines (sym is ∙ first ∙ ap (λ l. a ∷ l) (second ∙ ap (λ l. b ∷ l) none)) ∙ rw (left, right) refl
-
--- a first line without a word is enough to refuse
-both_words-none : (v : Option (List Letter)) → both_words None v ≡ None
-both_words-none None = refl
-both_words-none (Some w) = refl
-
-pub two_words-left
-    : (input : List ℕ) (all rest last : List (List ℕ)) (a b : List ℕ)
-    → all ≡ lines_of input
-    → all ≡ a ∷ rest
-    → rest ≡ b ∷ last
-    → last ≡ []
-    → None ≡ word_in (word_of a)
-    → two_words input ≡ None
-two_words-left input all rest last a b is first second none left =
-    two_words-two input all rest last a b None _ is first second none left refl ∙ both_words-none (word_in (word_of b))
+use Rattle.wb_top.specs.Commands.{command_of, reads_input}
+use Rattle.wb_top.specs.Answers.{Answer, answer, limit_met, ended, compared, compared_words, images_fit, acted, out_of_short, out_of, out_of_words, out, Told, IsTold}
 
 -- ---- Runs ----
 
@@ -144,13 +90,11 @@ pub compared-long
     → right ≡ v
     → limit < length w
     → compared handles limit u v ≡ Some (limit_met (codes "length ") limit)
-unfolding compared run_after
+unfolding compared
 compared-long w u v left right handles limit word first second long =
     let same : w ≡ quotient u v = word ∙ rw (first, second) refl in
-    let start = begun (quotient u v) handles limit in
-    let stands : start.progress ≡ progress.LengthMet = rw (lt-ltb limit (length (quotient u v)) (rw same at long)) refl in
-    let over : start.progress ≡ progress.Running → ⊥ = λ running. absurd (cc) in
-    rw (turns-ended handles limit handles start over, stands) refl
+    let met = run_after-long (quotient u v) handles limit handles (rw same at long) in
+    rw met refl
 
 -- ---- The program answers ----
 
@@ -170,21 +114,30 @@ ended-total handles limit u v run progress.HandlesMet is stands = (_, refl)
 ended-total handles limit u v run progress.LengthMet is stands = (_, refl)
 
 compared_words-total
-    : (handles limit : ℕ) (words : Option (List Letter × List Letter))
+    : (handles limit : ℕ) (words : Result (List Letter × List Letter) Fault)
     → (a : Answer) × (compared_words handles limit words ≡ Some a)
 unfolding compared
-compared_words-total handles limit None = (_, refl)
-compared_words-total handles limit (Some (u, v)) = ended-total handles limit u v _ _ refl refl
+compared_words-total handles limit (Err fault) = (_, refl)
+compared_words-total handles limit (Ok (u, v)) = ended-total handles limit u v _ _ refl refl
 
 out_of_short-total : (command : Command) (input : List ℕ) → (a : Answer) × (out_of_short command input ≡ Some a)
-out_of_short-total (Compare handles limit) input = compared_words-total handles limit (two_words input)
+out_of_short-total (Compare handles limit) input =
+    compared_words-total handles limit (two_words (MAX_INDEX + 1) input)
+out_of_short-total Check input = (_, refl)
+out_of_short-total (Act strands index limit) input = (_, refl)
+out_of_short-total (Laver exponent) input = (_, refl)
+out_of_short-total (Row exponent row) input = (_, refl)
+out_of_short-total (Bench pairs count seed) input = (_, refl)
 
 out_of-total : (command : Command) (input : List ℕ) → (a : Answer) × (out_of command input ≡ Some a)
 unfolding out_of
-out_of-total command input = elim (cases_lt MAX_INPUT (length input)) [
-  | inl long ↦ rw (lt-ltb MAX_INPUT (length input) long) (_, refl)
-  | inr short ↦ rw (le-ltb MAX_INPUT (length input) short) (out_of_short-total command input)
-]
+out_of-total command input = go (reads_input command && ltb MAX_INPUT (length input))
+  where
+    go
+        : (long : Bool)
+        → (a : Answer) × (cond long (Some (limit_met (codes "input ") MAX_INPUT)) (out_of_short command input) ≡ Some a)
+    go true = (_, refl)
+    go false = out_of_short-total command input
 
 -- the program has an answer to any words and any input
 pub out-total : (words : List (List ℕ)) (input : List ℕ) → (a : Answer) × (out words input ≡ Some a)
@@ -199,6 +152,34 @@ out-total words input = total (command_of words)
 some_injective : {x y : List ℕ} → Some x ≡ Some y → x ≡ y
 some_injective e = cc
 
+-- an input that isn't too long
+out_of-within
+    : (command : Command) (input : List ℕ)
+    → length input ≤ MAX_INPUT
+    → out_of command input ≡ out_of_short command input
+unfolding out_of
+out_of-within command input within = rw (le-ltb MAX_INPUT (length input) within) (go (reads_input command))
+  where
+    go
+        : (reads : Bool)
+        → cond (reads && false) (Some (limit_met (codes "input ") MAX_INPUT)) (out_of_short command input)
+        ≡ out_of_short command input
+    go true = refl
+    go false = refl
+
+-- a command that reads none has one answer
+pub out_of-alone
+    : (command : Command) (bytes input : List ℕ)
+    → reads_input command ≡ false
+    → out_of command input ≡ out_of_short command bytes
+unfolding out_of
+out_of-alone (Compare handles limit) bytes input alone = absurd (cc)
+out_of-alone Check bytes input alone = absurd (cc)
+out_of-alone (Act strands index limit) bytes input alone = absurd (cc)
+out_of-alone (Laver exponent) bytes input alone = refl
+out_of-alone (Row exponent row) bytes input alone = refl
+out_of-alone (Bench pairs count seed) bytes input alone = refl
+
 -- an input that was read whole, where it is told, is the one that was left
 pub out_of-short
     : (command : Command) (old new : Option (List ℕ)) (bytes : List ℕ) (a : Answer)
@@ -211,7 +192,7 @@ out_of-short command None new bytes a all within is = tt
 out_of-short command (Some input) None bytes a all within is = absurd (let e = all.taken in cc)
 out_of-short command (Some input) (Some rest) bytes a all within is =
     let whole : input ≡ bytes = some_injective all.taken ∙ ap (λ tail. bytes ++ tail) all.ended ∙ append-nil bytes in
-    rw (whole, le-ltb MAX_INPUT (length bytes) within) is
+    rw whole (out_of-within command bytes within ∙ is)
 
 -- and nothing of it is left
 pub left-short
@@ -229,14 +210,15 @@ left-short (Some input) (Some rest) bytes m all within =
 -- an input of which a byte past the limit was taken
 pub out_of-long
     : (command : Command) (old new : Option (List ℕ))
+    → reads_input command ≡ true
     → Skips old new (MAX_INPUT + 1)
     → IfSome old (λ input. out_of command input ≡ Some (limit_met (codes "input ") MAX_INPUT))
 unfolding out_of
-out_of-long command None new skips = tt
-out_of-long command (Some input) None (front, size, taken) = absurd cc
-out_of-long command (Some input) (Some rest) (front, size, taken) =
+out_of-long command None new reads skips = tt
+out_of-long command (Some input) None reads (front, size, taken) = absurd cc
+out_of-long command (Some input) (Some rest) reads (front, size, taken) =
     let long : MAX_INPUT < length input = rw (some_injective taken, length-append front rest) (omega arith) in
-    rw (lt-ltb MAX_INPUT (length input) long) refl
+    rw (reads, lt-ltb MAX_INPUT (length input) long) refl
 
 -- keeps what stands behind that byte
 pub left-long
@@ -265,6 +247,21 @@ pub IsTold-memory
 IsTold-memory words None old = tt
 IsTold-memory words (Some input) old = let (a, is) = out-total words input in rw is refl
 
+-- nor where it ran out for a command that has no input
+pub alone-memory
+    : {S : Type 0} (words : List (List ℕ)) (command : Command) (before after : S)
+    (old : Option (List ℕ))
+    → Some command ≡ command_of words
+    → (reads_input command ≡ false → after ≡ before)
+    → IfSome (command_of words) (λ command. reads_input command ≡ false →
+    (after ≡ before) × (Memory ≢ ReadFault) × IsTold (out words []) Memory old old)
+alone-memory words command before after old known same =
+    subst
+    (λ (c : Option Command). IfSome c (λ command. reads_input command ≡ false →
+    (after ≡ before) × (Memory ≢ ReadFault) × IsTold (out words []) Memory old old))
+    known
+    (λ alone. (same alone, (λ e. cc), (let (a, is) = out-total words [] in rw is refl)))
+
 -- the status of words that are no command is told of that answer alone
 pub Told-Words
     : (a : Answer) (s : Status) (old new : Option (List ℕ))
@@ -273,3 +270,65 @@ pub Told-Words
     → a.status ≡ Words
 Told-Words a s old new told is =
     let P : Status → Type 0 = λ t. Told a t old new in (subst P is told).0
+
+-- ---- The action ----
+
+-- a length that is no more than a limit
+short-test : (limit size : ℕ) → not (ltb limit size) ≡ true → size ≤ limit
+short-test limit size pass = go (ltb limit size) refl pass
+  where
+    go : (long : Bool) → ltb limit size ≡ long → not long ≡ true → size ≤ limit
+    go true test pass = absurd (cc)
+    go false test pass = ltb-false limit size test
+
+test-short : (limit size : ℕ) → size ≤ limit → not (ltb limit size) ≡ true
+test-short limit size short = rw (le-ltb limit size short) refl
+
+-- where each image passes the test, each is short enough
+pub images_fit-ImagesFit
+    : (limit : ℕ) (w : List Letter) (f : List Gen)
+    → images_fit limit w f ≡ true
+    → ImagesFit limit w f
+images_fit-ImagesFit limit [] f fit [] v is =
+    subst (λ (z : List Letter). length (act z f) ≤ limit) is (short-test limit (length f) fit)
+images_fit-ImagesFit limit [] f fit (y ∷ u) v is = absurd (cc)
+images_fit-ImagesFit limit (x ∷ w) f fit [] v is =
+    let (rest, whole) = and_parts (images_fit limit w f) _ fit in
+    subst (λ (z : List Letter). length (act z f) ≤ limit) is (short-test limit (length (act (x ∷ w) f)) whole)
+images_fit-ImagesFit limit (x ∷ w) f fit (y ∷ u) v is =
+    let (rest, whole) = and_parts (images_fit limit w f) _ fit in
+    images_fit-ImagesFit limit w f rest u v (let same : w ≡ u ++ v = cc in same)
+
+-- and back
+pub ImagesFit-images_fit
+    : (limit : ℕ) (w : List Letter) (f : List Gen)
+    → ImagesFit limit w f
+    → images_fit limit w f ≡ true
+ImagesFit-images_fit limit [] f fit = test-short limit (length f) (fit [] [] refl)
+ImagesFit-images_fit limit (x ∷ w) f fit =
+    and_from (images_fit limit w f) _
+    (ImagesFit-images_fit limit w f (λ u v is. fit (x ∷ u) v (ap (λ z. x ∷ z) is)))
+    (test-short limit (length (act (x ∷ w) f)) (fit [] (x ∷ w) refl))
+
+-- what is answered of an image
+pub acted-fits
+    : (index limit : ℕ) (w : List Letter) (f : List Gen)
+    → f ≡ act w (gen index false ∷ [])
+    → ImagesFit limit w (gen index false ∷ [])
+    → acted index limit w ≡ answer Done (line (free_text f))
+acted-fits index limit w f is fit =
+    rw (ImagesFit-images_fit limit w (gen index false ∷ []) fit, is) refl
+
+-- and of one that is too long
+pub acted-long
+    : (index limit : ℕ) (w : List Letter)
+    → (ImagesFit limit w (gen index false ∷ []) → ⊥)
+    → acted index limit w ≡ limit_met (codes "image ") limit
+acted-long index limit w long = go (images_fit limit w (gen index false ∷ [])) refl
+  where
+    go
+        : (fit : Bool)
+        → images_fit limit w (gen index false ∷ []) ≡ fit
+        → acted index limit w ≡ limit_met (codes "image ") limit
+    go true fit = absurd (long (images_fit-ImagesFit limit w (gen index false ∷ []) fit))
+    go false fit = rw fit refl

@@ -1,18 +1,324 @@
 -- Laws of the commands that words are.
-use Rattle.std.proofs.Common.{◌≡◌, ℕ, ◌<◌, ◌≤◌, List, [], ◌∷◌, length, None, refl, arith}
-use Rattle.wb_top.specs.Commands.{command_of}
+--
+-- The numbers of a command are within their bounds (`command_of-IsBounded`).
+use Rattle.std.proofs.Common.{◌≡◌, ℕ, ◌-◌, ◌^◌, ◌<◌, ◌≤◌, ◌==◌, ◌&&◌, Bool, true, false, ltb, not, List, [], ◌∷◌, length, codes, Option, Some, None, refl, subst, arith}
+use Rattle.std.specs.Str.{bytes_eq}
+use Rattle.std.proofs.lemmas.Bool.{cond_both, and_parts, ltb-false}
+use Rattle.wb_base.specs.Numbers.{number_at}
+use Rattle.handle_reduce.specs.declared.TheConstants.{MAX_BOUND}
+use Rattle.laver_table.specs.declared.TheConstants.{MAX_EXPONENT}
+use Rattle.wb_top.specs.declared.TheConstants.{MAX_STRANDS, MAX_IMAGE, MAX_PRINTED, MAX_SIZE, MAX_COUNT}
+use Rattle.wb_top.specs.declared.command.Command.{Command}
+use Rattle.wb_top.specs.declared.command.Command.TheVariants.{Compare, Check, Act, Laver, Row, Bench}
+use Rattle.wb_top.specs.Commands.{whole_number, number_of, compare_by, compare_of, check_of, act_by, act_on, act_of, laver_by, laver_of, row_by, row_in, row_of_numbers, pairs_by, bench_by, bench_of, command_of, IsBounded}
+use Rattle.wb_top.specs.Benching.{IsBoundedPairs}
+use Rattle.wb_top.specs.declared.bench.Pairs.{Pairs}
 
--- fewer than three words are no command
-pub command_of-few : (words : List (List ℕ)) → length words < 3 → command_of words ≡ None
-command_of-few [] few = refl
-command_of-few (a ∷ []) few = refl
-command_of-few (a ∷ (b ∷ [])) few = refl
-command_of-few (a ∷ (b ∷ (c ∷ rest))) few = absurd (omega arith)
+-- ---- Words that are too few or too many ----
 
--- nor are more
-pub command_of-many : (words : List (List ℕ)) → 4 ≤ length words → command_of words ≡ None
-command_of-many [] many = refl
-command_of-many (a ∷ []) many = refl
-command_of-many (a ∷ (b ∷ [])) many = refl
-command_of-many (a ∷ (b ∷ (c ∷ []))) many = absurd (omega arith)
-command_of-many (a ∷ (b ∷ (c ∷ (d ∷ rest)))) many = refl
+-- `compare` has two numbers
+pub compare_of-few : (numbers : List (List ℕ)) → length numbers < 2 → compare_of numbers ≡ None
+compare_of-few [] few = refl
+compare_of-few (a ∷ []) few = refl
+compare_of-few (a ∷ (b ∷ rest)) few = absurd (omega arith)
+
+pub compare_of-many : (numbers : List (List ℕ)) → 3 ≤ length numbers → compare_of numbers ≡ None
+compare_of-many [] many = refl
+compare_of-many (a ∷ []) many = refl
+compare_of-many (a ∷ (b ∷ [])) many = absurd (omega arith)
+compare_of-many (a ∷ (b ∷ (c ∷ rest))) many = refl
+
+-- `act` has three
+pub act_of-few : (numbers : List (List ℕ)) → length numbers < 3 → act_of numbers ≡ None
+act_of-few [] few = refl
+act_of-few (a ∷ []) few = refl
+act_of-few (a ∷ (b ∷ [])) few = refl
+act_of-few (a ∷ (b ∷ (c ∷ rest))) few = absurd (omega arith)
+
+pub act_of-many : (numbers : List (List ℕ)) → 4 ≤ length numbers → act_of numbers ≡ None
+act_of-many [] many = refl
+act_of-many (a ∷ []) many = refl
+act_of-many (a ∷ (b ∷ [])) many = refl
+act_of-many (a ∷ (b ∷ (c ∷ []))) many = absurd (omega arith)
+act_of-many (a ∷ (b ∷ (c ∷ (d ∷ rest)))) many = refl
+
+-- `laver` has one
+pub laver_of-few : (numbers : List (List ℕ)) → length numbers < 1 → laver_of numbers ≡ None
+laver_of-few [] few = refl
+laver_of-few (a ∷ rest) few = absurd (omega arith)
+
+pub laver_of-many : (numbers : List (List ℕ)) → 2 ≤ length numbers → laver_of numbers ≡ None
+laver_of-many [] many = refl
+laver_of-many (a ∷ []) many = absurd (omega arith)
+laver_of-many (a ∷ (b ∷ rest)) many = refl
+
+-- `row` has two
+pub row_of_numbers-few : (numbers : List (List ℕ)) → length numbers < 2 → row_of_numbers numbers ≡ None
+row_of_numbers-few [] few = refl
+row_of_numbers-few (a ∷ []) few = refl
+row_of_numbers-few (a ∷ (b ∷ rest)) few = absurd (omega arith)
+
+pub row_of_numbers-many : (numbers : List (List ℕ)) → 3 ≤ length numbers → row_of_numbers numbers ≡ None
+row_of_numbers-many [] many = refl
+row_of_numbers-many (a ∷ []) many = refl
+row_of_numbers-many (a ∷ (b ∷ [])) many = absurd (omega arith)
+row_of_numbers-many (a ∷ (b ∷ (c ∷ rest))) many = refl
+
+-- `bench` has six
+pub bench_of-few : (numbers : List (List ℕ)) → length numbers < 6 → bench_of numbers ≡ None
+bench_of-few [] few = refl
+bench_of-few (a ∷ []) few = refl
+bench_of-few (a ∷ (b ∷ [])) few = refl
+bench_of-few (a ∷ (b ∷ (c ∷ []))) few = refl
+bench_of-few (a ∷ (b ∷ (c ∷ (d ∷ [])))) few = refl
+bench_of-few (a ∷ (b ∷ (c ∷ (d ∷ (e ∷ []))))) few = refl
+bench_of-few (a ∷ (b ∷ (c ∷ (d ∷ (e ∷ (f ∷ rest)))))) few = absurd (omega arith)
+
+pub bench_of-many : (numbers : List (List ℕ)) → 7 ≤ length numbers → bench_of numbers ≡ None
+bench_of-many [] many = refl
+bench_of-many (a ∷ []) many = refl
+bench_of-many (a ∷ (b ∷ [])) many = refl
+bench_of-many (a ∷ (b ∷ (c ∷ []))) many = refl
+bench_of-many (a ∷ (b ∷ (c ∷ (d ∷ [])))) many = refl
+bench_of-many (a ∷ (b ∷ (c ∷ (d ∷ (e ∷ []))))) many = refl
+bench_of-many (a ∷ (b ∷ (c ∷ (d ∷ (e ∷ (f ∷ [])))))) many = absurd (omega arith)
+bench_of-many (a ∷ (b ∷ (c ∷ (d ∷ (e ∷ (f ∷ (g ∷ rest))))))) many = refl
+
+-- ---- Bounds ----
+
+-- a number within its bounds
+record IsBetween (low high n : ℕ) : Type 0 where
+  above : low ≤ n
+  below : n ≤ high
+
+-- a number that isn't less
+at_least : (a b : ℕ) → not (ltb a b) ≡ true → b ≤ a
+at_least a b pass = go (ltb a b) refl pass
+  where
+    go : (less : Bool) → ltb a b ≡ less → not less ≡ true → b ≤ a
+    go true test pass = absurd (cc)
+    go false test pass = ltb-false a b test
+
+-- a number that is the whole word is within its bounds
+whole_number-within
+    : (low high size : ℕ) (read : Option (ℕ × ℕ)) (n : ℕ)
+    → whole_number low high size read ≡ Some n
+    → IsBetween low high n
+whole_number-within low high size None n is = cc
+whole_number-within low high size (Some (value, digits)) n is =
+    cond_both ((digits == size) && not (ltb value low) && not (ltb high value)) _ _
+    (λ (o : Option ℕ). o ≡ Some n → IsBetween low high n)
+    (λ pass found.
+    let (front, above) = and_parts ((digits == size) && not (ltb value low)) (not (ltb high value)) pass in
+    let (size, below) = and_parts (digits == size) (not (ltb value low)) front in
+    let same : value ≡ n = cc in
+    subst (IsBetween low high) same (record { above = at_least value low below; below = at_least high value above }))
+    (λ fail found. absurd cc)
+    is
+
+-- the numbers of `compare`
+compare_by-IsBounded
+    : (handles limit : Option ℕ) (command : Command)
+    → ((n : ℕ) → handles ≡ Some n → IsBetween 0 MAX_BOUND n)
+    → ((n : ℕ) → limit ≡ Some n → IsBetween 0 MAX_BOUND n)
+    → compare_by handles limit ≡ Some command
+    → IsBounded command
+compare_by-IsBounded (Some a) (Some b) command first second is =
+    let same : Compare a b ≡ command = cc in
+    subst IsBounded same ((first a refl).below, (second b refl).below)
+compare_by-IsBounded (Some a) None command first second is = cc
+compare_by-IsBounded None limit command first second is = cc
+
+compare_of-IsBounded
+    : (numbers : List (List ℕ)) (command : Command)
+    → compare_of numbers ≡ Some command
+    → IsBounded command
+compare_of-IsBounded [] command is = cc
+compare_of-IsBounded (a ∷ []) command is = cc
+compare_of-IsBounded (a ∷ (b ∷ [])) command is =
+    compare_by-IsBounded (number_of 0 MAX_BOUND a) (number_of 0 MAX_BOUND b) command
+    (whole_number-within 0 MAX_BOUND (length a) (number_at a))
+    (whole_number-within 0 MAX_BOUND (length b) (number_at b)) is
+compare_of-IsBounded (a ∷ (b ∷ (c ∷ rest))) command is = cc
+
+-- `check` has none
+check_of-IsBounded
+    : (numbers : List (List ℕ)) (command : Command)
+    → check_of numbers ≡ Some command
+    → IsBounded command
+check_of-IsBounded [] command is = let same : Check ≡ command = cc in subst IsBounded same tt
+check_of-IsBounded (a ∷ rest) command is = cc
+
+-- the numbers of `act`
+act_by-IsBounded
+    : (strands : ℕ) (index limit : Option ℕ) (command : Command)
+    → IsBetween 2 MAX_STRANDS strands
+    → ((n : ℕ) → index ≡ Some n → IsBetween 1 strands n)
+    → ((n : ℕ) → limit ≡ Some n → IsBetween 1 MAX_IMAGE n)
+    → act_by strands index limit ≡ Some command
+    → IsBounded command
+act_by-IsBounded n (Some i) (Some l) command few first second is =
+    let same : Act n i l ≡ command = cc in
+    subst IsBounded same
+    (few.below, (first i refl).above, (first i refl).below, (second l refl).above, (second l refl).below)
+act_by-IsBounded n (Some i) None command few first second is = cc
+act_by-IsBounded n None limit command few first second is = cc
+
+act_on-IsBounded
+    : (strands : Option ℕ) (index limit : List ℕ) (command : Command)
+    → ((n : ℕ) → strands ≡ Some n → IsBetween 2 MAX_STRANDS n)
+    → act_on strands index limit ≡ Some command
+    → IsBounded command
+act_on-IsBounded None index limit command few is = cc
+act_on-IsBounded (Some n) index limit command few is =
+    act_by-IsBounded n (number_of 1 n index) (number_of 1 MAX_IMAGE limit) command (few n refl)
+    (whole_number-within 1 n (length index) (number_at index))
+    (whole_number-within 1 MAX_IMAGE (length limit) (number_at limit)) is
+
+act_of-IsBounded
+    : (numbers : List (List ℕ)) (command : Command)
+    → act_of numbers ≡ Some command
+    → IsBounded command
+act_of-IsBounded [] command is = cc
+act_of-IsBounded (a ∷ []) command is = cc
+act_of-IsBounded (a ∷ (b ∷ [])) command is = cc
+act_of-IsBounded (a ∷ (b ∷ (c ∷ []))) command is =
+    act_on-IsBounded (number_of 2 MAX_STRANDS a) b c command
+    (whole_number-within 2 MAX_STRANDS (length a) (number_at a)) is
+act_of-IsBounded (a ∷ (b ∷ (c ∷ (d ∷ rest)))) command is = cc
+
+-- the number of `laver`
+laver_by-IsBounded
+    : (exponent : Option ℕ) (command : Command)
+    → ((n : ℕ) → exponent ≡ Some n → IsBetween 0 MAX_PRINTED n)
+    → laver_by exponent ≡ Some command
+    → IsBounded command
+laver_by-IsBounded (Some n) command within is =
+    let same : Laver n ≡ command = cc in subst IsBounded same (within n refl).below
+laver_by-IsBounded None command within is = cc
+
+laver_of-IsBounded
+    : (numbers : List (List ℕ)) (command : Command)
+    → laver_of numbers ≡ Some command
+    → IsBounded command
+laver_of-IsBounded [] command is = cc
+laver_of-IsBounded (a ∷ []) command is =
+    laver_by-IsBounded (number_of 0 MAX_PRINTED a) command
+    (whole_number-within 0 MAX_PRINTED (length a) (number_at a)) is
+laver_of-IsBounded (a ∷ (b ∷ rest)) command is = cc
+
+-- the numbers of `row`
+row_by-IsBounded
+    : (exponent : ℕ) (row : Option ℕ) (command : Command)
+    → IsBetween 0 MAX_EXPONENT exponent
+    → ((p : ℕ) → row ≡ Some p → IsBetween 1 (2 ^ exponent) p)
+    → row_by exponent row ≡ Some command
+    → IsBounded command
+row_by-IsBounded n (Some p) command small within is =
+    let same : Row n p ≡ command = cc in
+    subst IsBounded same (small.below, (within p refl).above, (within p refl).below)
+row_by-IsBounded n None command small within is = cc
+
+row_in-IsBounded
+    : (exponent : Option ℕ) (row : List ℕ) (command : Command)
+    → ((n : ℕ) → exponent ≡ Some n → IsBetween 0 MAX_EXPONENT n)
+    → row_in exponent row ≡ Some command
+    → IsBounded command
+row_in-IsBounded None row command small is = cc
+row_in-IsBounded (Some n) row command small is =
+    row_by-IsBounded n (number_of 1 (2 ^ n) row) command (small n refl)
+    (whole_number-within 1 (2 ^ n) (length row) (number_at row)) is
+
+row_of_numbers-IsBounded
+    : (numbers : List (List ℕ)) (command : Command)
+    → row_of_numbers numbers ≡ Some command
+    → IsBounded command
+row_of_numbers-IsBounded [] command is = cc
+row_of_numbers-IsBounded (a ∷ []) command is = cc
+row_of_numbers-IsBounded (a ∷ (b ∷ [])) command is =
+    row_in-IsBounded (number_of 0 MAX_EXPONENT a) b command
+    (whole_number-within 0 MAX_EXPONENT (length a) (number_at a)) is
+row_of_numbers-IsBounded (a ∷ (b ∷ (c ∷ rest))) command is = cc
+
+-- the numbers of `bench`
+pairs_by-IsBounded
+    : (strands size handles limit : Option ℕ) (pairs : Pairs)
+    → ((n : ℕ) → strands ≡ Some n → IsBetween 2 MAX_STRANDS n)
+    → ((n : ℕ) → size ≡ Some n → IsBetween 0 MAX_SIZE n)
+    → ((n : ℕ) → handles ≡ Some n → IsBetween 0 MAX_BOUND n)
+    → ((n : ℕ) → limit ≡ Some n → IsBetween 0 MAX_BOUND n)
+    → pairs_by strands size handles limit ≡ Some pairs
+    → IsBoundedPairs pairs
+pairs_by-IsBounded (Some n) (Some k) (Some h) (Some l) pairs first second third fourth is =
+    let same : record { strands = n; size = k; handles = h; limit = l } ≡ pairs = cc in
+    subst IsBoundedPairs same (record {
+      few = (first n refl).above;
+      strands = (first n refl).below;
+      size = (second k refl).below;
+      handles = (third h refl).below;
+      limit = (fourth l refl).below;
+    })
+pairs_by-IsBounded None size handles limit pairs first second third fourth is = absurd (cc)
+pairs_by-IsBounded (Some n) None handles limit pairs first second third fourth is = absurd (cc)
+pairs_by-IsBounded (Some n) (Some k) None limit pairs first second third fourth is = absurd (cc)
+pairs_by-IsBounded (Some n) (Some k) (Some h) None pairs first second third fourth is = absurd (cc)
+
+bench_by-IsBounded
+    : (pairs : Option Pairs) (count seed : Option ℕ) (command : Command)
+    → ((p : Pairs) → pairs ≡ Some p → IsBoundedPairs p)
+    → ((n : ℕ) → count ≡ Some n → IsBetween 1 MAX_COUNT n)
+    → bench_by pairs count seed ≡ Some command
+    → IsBounded command
+bench_by-IsBounded (Some p) (Some c) (Some s) command first second is =
+    let same : Bench p c s ≡ command = cc in
+    subst IsBounded same (first p refl, (second c refl).below)
+bench_by-IsBounded None count seed command first second is = absurd (cc)
+bench_by-IsBounded (Some p) None seed command first second is = absurd (cc)
+bench_by-IsBounded (Some p) (Some c) None command first second is = absurd (cc)
+
+bench_of-IsBounded
+    : (numbers : List (List ℕ)) (command : Command)
+    → bench_of numbers ≡ Some command
+    → IsBounded command
+bench_of-IsBounded [] command is = cc
+bench_of-IsBounded (a ∷ []) command is = cc
+bench_of-IsBounded (a ∷ (b ∷ [])) command is = cc
+bench_of-IsBounded (a ∷ (b ∷ (c ∷ []))) command is = cc
+bench_of-IsBounded (a ∷ (b ∷ (c ∷ (d ∷ [])))) command is = cc
+bench_of-IsBounded (a ∷ (b ∷ (c ∷ (d ∷ (e ∷ []))))) command is = cc
+bench_of-IsBounded (a ∷ (b ∷ (c ∷ (d ∷ (e ∷ (f ∷ [])))))) command is =
+    bench_by-IsBounded
+    (pairs_by (number_of 2 MAX_STRANDS a) (number_of 0 MAX_SIZE b) (number_of 0 MAX_BOUND e)
+    (number_of 0 MAX_BOUND f))
+    (number_of 1 MAX_COUNT c) (number_of 0 (2 ^ 64 - 1) d) command
+    (λ p. pairs_by-IsBounded (number_of 2 MAX_STRANDS a) (number_of 0 MAX_SIZE b)
+    (number_of 0 MAX_BOUND e) (number_of 0 MAX_BOUND f) p
+    (whole_number-within 2 MAX_STRANDS (length a) (number_at a))
+    (whole_number-within 0 MAX_SIZE (length b) (number_at b))
+    (whole_number-within 0 MAX_BOUND (length e) (number_at e))
+    (whole_number-within 0 MAX_BOUND (length f) (number_at f)))
+    (whole_number-within 1 MAX_COUNT (length c) (number_at c)) is
+bench_of-IsBounded (a ∷ (b ∷ (c ∷ (d ∷ (e ∷ (f ∷ (g ∷ rest))))))) command is = cc
+
+-- the numbers of a command are within their bounds
+pub command_of-IsBounded
+    : (words : List (List ℕ)) (command : Command)
+    → command_of words ≡ Some command
+    → IsBounded command
+command_of-IsBounded [] command is = cc
+command_of-IsBounded (name ∷ numbers) command is =
+    let Bounds : Option Command → Type 0 = λ o. o ≡ Some command → IsBounded command in
+    cond_both (bytes_eq name (codes "compare")) _ _ Bounds
+    (λ named. compare_of-IsBounded numbers command)
+    (λ other. cond_both (bytes_eq name (codes "check")) _ _ Bounds
+    (λ named. check_of-IsBounded numbers command)
+    (λ other. cond_both (bytes_eq name (codes "act")) _ _ Bounds
+    (λ named. act_of-IsBounded numbers command)
+    (λ other. cond_both (bytes_eq name (codes "laver")) _ _ Bounds
+    (λ named. laver_of-IsBounded numbers command)
+    (λ other. cond_both (bytes_eq name (codes "row")) _ _ Bounds
+    (λ named. row_of_numbers-IsBounded numbers command)
+    (λ other. cond_both (bytes_eq name (codes "bench")) _ _ Bounds
+    (λ named. bench_of-IsBounded numbers command)
+    (λ other found. absurd cc))))))
+    is

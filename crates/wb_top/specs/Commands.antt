@@ -1,40 +1,126 @@
 -- The command that the words of a command line are.
 --
---   bound_of word       the number of a command word, from 0 to 100,000
---   command_of words    the command, if the words are one
---   IsBounded command   its numbers are within their bounds
-use Rattle.std.specs.Prelude.{ℕ, ◌+◌, ◌≤◌, ◌==◌, ◌&&◌, nat_lt, if◌then◌else◌, List, [], ◌∷◌, length, codes, Option, Some, None}
+--   number_of low high word   the number of a command word, if it is within these bounds
+--   command_of words          the command, if the words are one
+--   reads_input command       whether it has an input
+--   IsBounded command         its numbers are within their bounds
+use Rattle.std.specs.Prelude.{ℕ, ◌-◌, ◌^◌, ◌≤◌, ◌==◌, ◌&&◌, not, nat_lt, Bool, true, false, if◌then◌else◌, List, [], ◌∷◌, length, codes, Option, Some, None}
 use Rattle.std.specs.Str.{bytes_eq}
 use Rattle.wb_base.specs.Numbers.{number_at}
 use Rattle.handle_reduce.specs.declared.TheConstants.{MAX_BOUND}
+use Rattle.laver_table.specs.declared.TheConstants.{MAX_EXPONENT}
+use Rattle.wb_top.specs.declared.TheConstants.{MAX_STRANDS, MAX_IMAGE, MAX_PRINTED, MAX_SIZE, MAX_COUNT}
+use Rattle.wb_top.specs.Benching.{IsBoundedPairs}
+use Rattle.wb_top.specs.declared.bench.Pairs.{Pairs}
 use Rattle.wb_top.specs.declared.command.Command.{Command}
-use Rattle.wb_top.specs.declared.command.Command.TheVariants.{Compare}
+use Rattle.wb_top.specs.declared.command.Command.TheVariants.{Compare, Check, Act, Laver, Row, Bench}
 
--- A number that is the whole word and at most 100,000.
-abbrev pub whole_bound : ℕ → Option (ℕ × ℕ) → Option ℕ
-whole_bound size None = None
-whole_bound size (Some (value, digits)) =
-    if (digits == size) && nat_lt value (MAX_BOUND + 1) then Some value else None
+-- A number that is the whole word, and within these bounds.
+abbrev pub whole_number : ℕ → ℕ → ℕ → Option (ℕ × ℕ) → Option ℕ
+whole_number low high size None = None
+whole_number low high size (Some (value, digits)) =
+    if (digits == size) && not (nat_lt value low) && not (nat_lt high value) then Some value else None
 
--- The number that a command word is: `100000` is one, and `01`, `100001` and `1x` are none.
-abbrev pub bound_of : List ℕ → Option ℕ
-bound_of word = whole_bound (length word) (number_at word)
+-- The number that a command word is: from 1 to 64 it is one for `64`, and none for `01`, `0`, `65` and `1x`.
+abbrev pub number_of : ℕ → ℕ → List ℕ → Option ℕ
+number_of low high word = whole_number low high (length word) (number_at word)
 
--- `compare` with its two numbers.
-abbrev pub compare_of : Option ℕ → Option ℕ → Option Command
-compare_of (Some handles) (Some limit) = Some (Compare handles limit)
-compare_of (Some handles) None = None
-compare_of None limit = None
+-- `compare` with the most reductions, and the most letters.
+abbrev pub compare_by : Option ℕ → Option ℕ → Option Command
+compare_by (Some handles) (Some limit) = Some (Compare handles limit)
+compare_by (Some handles) None = None
+compare_by None limit = None
 
--- The command of some words: `compare H L`.
+abbrev pub compare_of : List (List ℕ) → Option Command
+compare_of (handles ∷ (limit ∷ [])) = compare_by (number_of 0 MAX_BOUND handles) (number_of 0 MAX_BOUND limit)
+compare_of other = None
+
+-- `check`, which has no numbers.
+abbrev pub check_of : List (List ℕ) → Option Command
+check_of [] = Some Check
+check_of (word ∷ rest) = None
+
+-- `act` with the number of strands, the index of a generator, and the most generators of an image.
+abbrev pub act_by : ℕ → Option ℕ → Option ℕ → Option Command
+act_by strands (Some index) (Some limit) = Some (Act strands index limit)
+act_by strands (Some index) None = None
+act_by strands None limit = None
+
+abbrev pub act_on : Option ℕ → List ℕ → List ℕ → Option Command
+act_on None index limit = None
+act_on (Some strands) index limit = act_by strands (number_of 1 strands index) (number_of 1 MAX_IMAGE limit)
+
+abbrev pub act_of : List (List ℕ) → Option Command
+act_of (strands ∷ (index ∷ (limit ∷ []))) = act_on (number_of 2 MAX_STRANDS strands) index limit
+act_of other = None
+
+-- `laver` with the exponent of a table's size.
+abbrev pub laver_by : Option ℕ → Option Command
+laver_by (Some exponent) = Some (Laver exponent)
+laver_by None = None
+
+abbrev pub laver_of : List (List ℕ) → Option Command
+laver_of (exponent ∷ []) = laver_by (number_of 0 MAX_PRINTED exponent)
+laver_of other = None
+
+-- `row` with the exponent of a table's size, and a row.
+abbrev pub row_by : ℕ → Option ℕ → Option Command
+row_by exponent (Some row) = Some (Row exponent row)
+row_by exponent None = None
+
+abbrev pub row_in : Option ℕ → List ℕ → Option Command
+row_in None row = None
+row_in (Some exponent) row = row_by exponent (number_of 1 (2 ^ exponent) row)
+
+abbrev pub row_of_numbers : List (List ℕ) → Option Command
+row_of_numbers (exponent ∷ (row ∷ [])) = row_in (number_of 0 MAX_EXPONENT exponent) row
+row_of_numbers other = None
+
+-- `bench` with the number of strands, the letters of a word, the number of pairs, the first state, and the
+-- limits of each run.
+abbrev pub pairs_by : Option ℕ → Option ℕ → Option ℕ → Option ℕ → Option Pairs
+pairs_by (Some strands) (Some size) (Some handles) (Some limit) =
+    Some (record { strands = strands; size = size; handles = handles; limit = limit })
+pairs_by strands size handles limit = None
+
+abbrev pub bench_by : Option Pairs → Option ℕ → Option ℕ → Option Command
+bench_by (Some pairs) (Some count) (Some seed) = Some (Bench pairs count seed)
+bench_by pairs count seed = None
+
+abbrev pub bench_of : List (List ℕ) → Option Command
+bench_of (strands ∷ (size ∷ (count ∷ (seed ∷ (handles ∷ (limit ∷ [])))))) =
+    bench_by
+    (pairs_by (number_of 2 MAX_STRANDS strands) (number_of 0 MAX_SIZE size) (number_of 0 MAX_BOUND handles)
+    (number_of 0 MAX_BOUND limit))
+    (number_of 1 MAX_COUNT count) (number_of 0 (2 ^ 64 - 1) seed)
+bench_of other = None
+
+-- The command of some words: its name, and then its numbers.
 abbrev pub command_of : List (List ℕ) → Option Command
-command_of (name ∷ (handles ∷ (limit ∷ []))) =
-    if bytes_eq name (codes "compare") then compare_of (bound_of handles) (bound_of limit) else None
-command_of (name ∷ (handles ∷ (limit ∷ (more ∷ rest)))) = None
-command_of (name ∷ (handles ∷ [])) = None
-command_of (name ∷ []) = None
 command_of [] = None
+command_of (name ∷ numbers) =
+    if bytes_eq name (codes "compare") then compare_of numbers
+    else (if bytes_eq name (codes "check") then check_of numbers
+    else (if bytes_eq name (codes "act") then act_of numbers
+    else (if bytes_eq name (codes "laver") then laver_of numbers
+    else (if bytes_eq name (codes "row") then row_of_numbers numbers
+    else (if bytes_eq name (codes "bench") then bench_of numbers else None)))))
 
--- The numbers of a command are at most 100,000.
+-- A command that has no input reads nothing.
+abbrev pub reads_input : Command → Bool
+reads_input (Compare handles limit) = true
+reads_input Check = true
+reads_input (Act strands index limit) = true
+reads_input (Laver exponent) = false
+reads_input (Row exponent row) = false
+reads_input (Bench pairs count seed) = false
+
+-- The numbers of a command are within their bounds.
 abbrev pub IsBounded : Command → Type 0
 IsBounded (Compare handles limit) = (handles ≤ MAX_BOUND) × (limit ≤ MAX_BOUND)
+IsBounded Check = Unit {0}
+IsBounded (Act strands index limit) =
+    (strands ≤ MAX_STRANDS) × (1 ≤ index) × (index ≤ strands) × (1 ≤ limit) × (limit ≤ MAX_IMAGE)
+IsBounded (Laver exponent) = exponent ≤ MAX_PRINTED
+IsBounded (Row exponent row) = (exponent ≤ MAX_EXPONENT) × (1 ≤ row) × (row ≤ 2 ^ exponent)
+IsBounded (Bench pairs count seed) = IsBoundedPairs pairs × (count ≤ MAX_COUNT)

@@ -1,31 +1,87 @@
 -- What the text of a command that is done says of its input.
 --
---   HasVerdict input text     it is a trace of the two words of the input, whose verdict and witness hold
---   Says command input text   what the text of a command says
-use Rattle.std.specs.Prelude.{◌≡◌, ◌↔◌, ℕ, List, Some}
-use Rattle.braid_word.specs.Words.{quotient, IsOn}
-use Rattle.braid_word.specs.Equivalence.{EquivalentOn, Equivalent}
-use Rattle.wb_top.specs.declared.command.Command.{Command}
-use Rattle.wb_top.specs.declared.command.Command.TheVariants.{Compare}
-use Rattle.trace_format.specs.declared.verdict.Verdict.{Verdict}
+--   HasVerdict input text          it is an accepted trace of the two words of the input
+--   IsChecked input text           the input is an accepted trace, and the text its verdict
+--   HasRefusal input text          the input isn't accepted, and the text its first refusal
+--   HasImage N I L input text      it is the image of a generator under the word of the input
+--   HasTable n text                it is the Laver table of size 2^n
+--   HasRow n p text                it is row p of that table
+--   Says command input text        what the text of a command says
+use Rattle.std.specs.Prelude.{◌≡◌, ◌↔◌, ℕ, ◌+◌, ◌≤◌, length, false, List, [], ◌∷◌, Ok}
+use Rattle.wb_base.specs.Lines.{line}
+use Rattle.braid_word.specs.Words.{Letter, IsOn}
+use Rattle.braid_word.specs.Equivalence.{EquivalentOn}
+use Rattle.braid_word.specs.declared.TheConstants.{MAX_INDEX}
+use Rattle.free_word.specs.FreeWords.{gen}
+use Rattle.free_word.specs.FreeText.{free_text}
+use Rattle.artin_laws.specs.Action.{act, ImagesFit}
+use Rattle.laver_table.specs.Table.{row_of, IsLaver}
+use Rattle.laver_table.specs.TableText.{row_line, table_text}
 use Rattle.trace_format.specs.declared.verdict.Verdict.TheVariants.{Equal}
-use Rattle.trace_format.specs.Verdicts.{Holds, Shows}
-use Rattle.trace_format.specs.TraceText.{Trace, trace_text}
-use Rattle.wb_top.specs.Answers.{two_words}
+use Rattle.trace_format.specs.TraceText.{Trace}
+use Rattle.trace_check.specs.Accepted.{IsAccepted, IsValid}
+use Rattle.trace_check.specs.FirstRefusal.{IsFirstRefusal}
+use Rattle.trace_check.specs.declared.checked.Why.{Why}
+use Rattle.wb_top.specs.declared.TheConstants.{MAX_INPUT}
+use Rattle.wb_top.specs.declared.command.Command.{Command}
+use Rattle.wb_top.specs.declared.command.Command.TheVariants.{Compare, Check, Act, Laver, Row, Bench}
+use Rattle.wb_top.specs.Bench.{none_counted, tallied, tally_text}
+use Rattle.wb_top.specs.Inputs.{one_word, two_words}
+use Rattle.wb_top.specs.Answers.{accepted_text, refused_text}
 
--- The text is a trace of the two words u and v of the input. Its verdict holds of them in the order
--- on braids, and no other does; its witness is a word that represents u^-1 v and shows the verdict.
--- It is equal exactly where the words are equivalent, on any number of strands that both are on.
+-- The text is a trace of the two words of the input, would be accepted by `check`, which can read it, and is
+-- valid. Its verdict is equal exactly where the words are equivalent, on any number of strands that both are
+-- on.
 pub record HasVerdict (input text : List ℕ) : Type 0 where
   pub trace : Trace
-  pub words : two_words input ≡ Some (trace.left, trace.right)
-  pub is : text ≡ trace_text trace
-  pub holds : Holds trace.verdict trace.left trace.right
-  pub only : (d : Verdict) → Holds d trace.left trace.right → d ≡ trace.verdict
+  pub words : two_words (MAX_INDEX + 1) input ≡ Ok (trace.left, trace.right)
+  pub accepted : IsAccepted text trace
+  pub short : length text ≤ MAX_INPUT
+  pub valid : IsValid trace
   pub equal : (n : ℕ) → IsOn n trace.left → IsOn n trace.right → (trace.verdict ≡ Equal) ↔ EquivalentOn n trace.left trace.right
-  pub witness : Equivalent trace.witness (quotient trace.left trace.right)
-  pub shown : Shows trace.verdict trace.witness
+
+-- The input is an accepted trace, which is valid, and the text says its verdict.
+pub record IsChecked (input text : List ℕ) : Type 0 where
+  pub trace : Trace
+  pub accepted : IsAccepted input trace
+  pub valid : IsValid trace
+  pub is : text ≡ accepted_text trace.verdict
+
+-- The input isn't accepted as any trace, and the text says its first refusal.
+pub record HasRefusal (input text : List ℕ) : Type 0 where
+  pub line : ℕ
+  pub why : Why
+  pub first : IsFirstRefusal input line why
+  pub none : (t : Trace) → IsAccepted input t → ⊥
+  pub is : text ≡ refused_text line why
+
+-- The input is a word on so many strands, and the text the image of a generator under it; no image after a
+-- suffix of the word is longer than it may be.
+pub record HasImage (strands index limit : ℕ) (input text : List ℕ) : Type 0 where
+  pub word : List Letter
+  pub read : one_word strands input ≡ Ok word
+  pub fits : ImagesFit limit word (gen index false ∷ [])
+  pub is : text ≡ line (free_text (act word (gen index false ∷ [])))
+
+-- The text is the Laver table of size 2^n, of which there is one.
+pub record HasTable (exponent : ℕ) (text : List ℕ) : Type 0 where
+  pub rows : List (List ℕ)
+  pub laver : IsLaver exponent rows
+  pub only : (other : List (List ℕ)) → IsLaver exponent other → other ≡ rows
+  pub is : text ≡ table_text rows
+
+-- The text is a row of it.
+pub record HasRow (exponent row : ℕ) (text : List ℕ) : Type 0 where
+  pub rows : List (List ℕ)
+  pub laver : IsLaver exponent rows
+  pub only : (other : List (List ℕ)) → IsLaver exponent other → other ≡ rows
+  pub is : text ≡ row_line (row_of rows row)
 
 -- What the text of a command says of the input, where the command is done.
 abbrev pub Says : Command → List ℕ → List ℕ → Type 0
 Says (Compare handles limit) input text = HasVerdict input text
+Says Check input text = IsChecked input text
+Says (Act strands index limit) input text = HasImage strands index limit input text
+Says (Laver exponent) input text = HasTable exponent text
+Says (Row exponent row) input text = HasRow exponent row text
+Says (Bench pairs count seed) input text = text ≡ tally_text count (tallied pairs count seed none_counted)

@@ -1,27 +1,179 @@
-ghost use Rattle.std.specs.Prelude.{◌≡◌, ◌≤◌, map, string_bytes, IfSome};
-ghost use Rattle.wb_top.specs.Commands.{bound_of, command_of, IsBounded};
+ghost use Rattle.std.specs.Prelude.{◌≡◌, ◌-◌, ◌^◌, ◌≤◌, map, string_bytes, IfSome};
+ghost use Rattle.wb_top.specs.Commands.{number_of, compare_of, check_of, act_of, laver_of, row_of_numbers, pairs_by, bench_of, command_of, reads_input, IsBounded};
+ghost use Rattle.wb_top.specs.Benching.{IsBoundedPairs};
 
+use crate::bench::Pairs;
+use crate::{MAX_COUNT, MAX_IMAGE, MAX_PRINTED, MAX_SIZE, MAX_STRANDS};
 use handle_reduce::MAX_BOUND;
+use laver_table::MAX_EXPONENT;
 use wb_base::read_number;
 
 /// A command of the program.
 #[derive(Clone, Copy, Debug, PartialEq, Eq)]
 pub enum Command {
     /// Compares two words by at most so many handle reductions, over words of at most so many letters.
-    Compare { handles: u32, limit: u32 },
+    Compare {
+        handles: u32,
+        limit: u32,
+    },
+    /// Checks a trace file.
+    Check,
+    /// Gives the image of this generator of the free group under a word on so many strands, over images
+    /// of at most so many generators.
+    Act {
+        strands: u32,
+        index: u32,
+        limit: u32,
+    },
+    /// Gives the Laver table of size 2 to this exponent.
+    Laver {
+        exponent: u32,
+    },
+    /// Gives a row of the Laver table of size 2 to this exponent.
+    Row {
+        exponent: u32,
+        row: u32,
+    },
+    /// Counts the runs of so many pairs of words that are made from a state on.
+    Bench {
+        pairs: Pairs,
+        count: u32,
+        seed: u64,
+    },
 }
 
-// The number of a command word, from 0 to 100,000.
-fn read_bound(word: &[u8]) -> Option<u32>
-    ensures bound { result ≡ bound_of word.now }
-    ensures within { IfSome result (λ n. n ≤ MAX_BOUND) }
+impl Command {
+    /// Whether the command has an input. One that hasn't reads nothing.
+    pub fn reads_input(&self) -> bool
+        ensures { result ≡ reads_input self.now }
+    {
+        match self {
+            Command::Compare { .. } | Command::Check | Command::Act { .. } => true,
+            Command::Laver { .. } | Command::Row { .. } | Command::Bench { .. } => false,
+        }
+    }
+}
+
+// The number of a command word, if it is within these bounds.
+fn read_within(word: &[u8], low: u32, high: u32) -> Option<u32>
+    ensures number { result ≡ number_of low high word.now }
+    ensures low { IfSome result (λ n. low ≤ n) }
+    ensures high { IfSome result (λ n. n ≤ high) }
 {
     let (value, digits) = read_number(word)?;
-    if digits == word.len() && value <= u64::from(MAX_BOUND) {
+    if digits == word.len() && value >= u64::from(low) && value <= u64::from(high) {
         Some(value as u32)
     } else {
         None
     }
+}
+
+// The numbers of `compare`.
+fn read_compare(numbers: &[String]) -> Option<Command>
+    ensures command { result ≡ compare_of (map string_bytes numbers.now) }
+    ensures bounded { IfSome result IsBounded }
+{
+    let [handles, limit] = numbers else {
+        return None;
+    };
+    let handles = read_within(handles.as_bytes(), 0, MAX_BOUND)?;
+    let limit = read_within(limit.as_bytes(), 0, MAX_BOUND)?;
+    Some(Command::Compare { handles, limit })
+}
+
+// The numbers of `check`, which are none.
+fn read_check(numbers: &[String]) -> Option<Command>
+    ensures command { result ≡ check_of (map string_bytes numbers.now) }
+    ensures bounded { IfSome result IsBounded }
+{
+    if numbers.is_empty() {
+        Some(Command::Check)
+    } else {
+        None
+    }
+}
+
+// The numbers of `act`.
+fn read_act(numbers: &[String]) -> Option<Command>
+    ensures command { result ≡ act_of (map string_bytes numbers.now) }
+    ensures bounded { IfSome result IsBounded }
+{
+    let [strands, index, limit] = numbers else {
+        return None;
+    };
+    let strands = read_within(strands.as_bytes(), 2, MAX_STRANDS)?;
+    let index = read_within(index.as_bytes(), 1, strands)?;
+    let limit = read_within(limit.as_bytes(), 1, MAX_IMAGE)?;
+    Some(Command::Act {
+        strands,
+        index,
+        limit,
+    })
+}
+
+// The number of `laver`.
+fn read_laver(numbers: &[String]) -> Option<Command>
+    ensures command { result ≡ laver_of (map string_bytes numbers.now) }
+    ensures bounded { IfSome result IsBounded }
+{
+    let [exponent] = numbers else {
+        return None;
+    };
+    let exponent = read_within(exponent.as_bytes(), 0, MAX_PRINTED)?;
+    Some(Command::Laver { exponent })
+}
+
+// The numbers of `row`.
+fn read_row(numbers: &[String]) -> Option<Command>
+    ensures command { result ≡ row_of_numbers (map string_bytes numbers.now) }
+    ensures bounded { IfSome result IsBounded }
+{
+    let [exponent, row] = numbers else {
+        return None;
+    };
+    let exponent = read_within(exponent.as_bytes(), 0, MAX_EXPONENT)?;
+    let row = read_within(row.as_bytes(), 1, 1 << exponent)?;
+    Some(Command::Row { exponent, row })
+}
+
+// The number of a command word, if it is one.
+fn read_seed(word: &[u8]) -> Option<u64>
+    ensures { result ≡ number_of 0 (2 ^ 64 - 1) word.now }
+{
+    let (value, digits) = read_number(word)?;
+    (digits == word.len()).then_some(value)
+}
+
+// The pairs of `bench`, by its numbers of strands and letters, and its limits.
+fn read_pairs(strands: &[u8], size: &[u8], handles: &[u8], limit: &[u8]) -> Option<Pairs>
+    ensures pairs { result ≡ pairs_by (number_of 2 MAX_STRANDS strands.now) (number_of 0 MAX_SIZE size.now) (number_of 0 MAX_BOUND handles.now) (number_of 0 MAX_BOUND limit.now) }
+    ensures bounded { IfSome result IsBoundedPairs }
+{
+    Some(Pairs {
+        strands: read_within(strands, 2, MAX_STRANDS)?,
+        size: read_within(size, 0, MAX_SIZE)?,
+        handles: read_within(handles, 0, MAX_BOUND)?,
+        limit: read_within(limit, 0, MAX_BOUND)?,
+    })
+}
+
+// The numbers of `bench`.
+fn read_bench(numbers: &[String]) -> Option<Command>
+    ensures command { result ≡ bench_of (map string_bytes numbers.now) }
+    ensures bounded { IfSome result IsBounded }
+{
+    let [strands, size, count, seed, handles, limit] = numbers else {
+        return None;
+    };
+    let pairs = read_pairs(
+        strands.as_bytes(),
+        size.as_bytes(),
+        handles.as_bytes(),
+        limit.as_bytes(),
+    )?;
+    let count = read_within(count.as_bytes(), 1, MAX_COUNT)?;
+    let seed = read_seed(seed.as_bytes())?;
+    Some(Command::Bench { pairs, count, seed })
 }
 
 /// The command that the words after the program's name are.
@@ -29,12 +181,22 @@ pub fn read_command(words: &[String]) -> Option<Command>
     ensures command { result ≡ command_of (map string_bytes words.now) }
     ensures bounded { IfSome result IsBounded }
 {
-    match words {
-        [name, handles, limit] if name.as_str() == "compare" => {
-            let handles = read_bound(handles.as_bytes())?;
-            let limit = read_bound(limit.as_bytes())?;
-            Some(Command::Compare { handles, limit })
-        }
-        _ => None,
+    let [name, numbers @ ..] = words else {
+        return None;
+    };
+    if name.as_str() == "compare" {
+        read_compare(numbers)
+    } else if name.as_str() == "check" {
+        read_check(numbers)
+    } else if name.as_str() == "act" {
+        read_act(numbers)
+    } else if name.as_str() == "laver" {
+        read_laver(numbers)
+    } else if name.as_str() == "row" {
+        read_row(numbers)
+    } else if name.as_str() == "bench" {
+        read_bench(numbers)
+    } else {
+        None
     }
 }

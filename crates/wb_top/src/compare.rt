@@ -1,51 +1,16 @@
-ghost use Rattle.std.specs.Prelude.{◌≡◌, ◌≢◌, ◌≤◌, IfOk, Some};
-ghost use Rattle.braid_word.specs.Notation.{word_of};
+ghost use Rattle.std.specs.Prelude.{◌≡◌, ◌≢◌, ◌+◌, ◌≤◌, IfOk, Some};
 ghost use Rattle.handle_reduce.specs.declared.TheConstants.{MAX_BOUND};
-ghost use Rattle.wb_top.specs.Answers.{word_in, two_words, compared, compared_words};
+ghost use Rattle.wb_top.specs.Answers.{compared, compared_words};
+ghost use Rattle.wb_top.specs.Inputs.{two_words};
 ghost use Rattle.wb_top.specs.Outcomes.{answer_of};
 
+use crate::input::{InputErr, read_two_words};
 use crate::outcome::Outcome;
-use braid_word::{Word, WordErr, quotient, read_word};
+use braid_word::{MAX_INDEX, Word, quotient};
 use handle_reduce::{Progress, Reducer};
 use std::alloc::{AllocError, Global};
 use trace_format::verdict_of;
-use wb_base::{Status, lines};
-
-// The word of a line, if it is one.
-fn read_line_word(alloc: Global, line: &[u8]) -> Result<Option<Word>, AllocError>
-    ensures { IfOk result (λ word. word ≡ word_in (word_of line.now)) }
-{
-    match read_word(alloc, line) {
-        Ok(word) => Ok(Some(word)),
-        Err(WordErr::Memory) => Err(AllocError),
-        Err(WordErr::BadLetter { .. } | WordErr::BadIndex { .. } | WordErr::TooLong { .. }) => Ok(
-            None,
-        ),
-    }
-}
-
-// The words of an input of exactly two lines, each with one.
-fn read_two_words(alloc: Global, input: &[u8]) -> Result<Option<(Word, Word)>, AllocError>
-    ensures { IfOk result (λ words. words ≡ two_words input.now) }
-{
-    let mut lines = lines(input);
-    let Some(first) = lines.next() else {
-        return Ok(None);
-    };
-    let Some(second) = lines.next() else {
-        return Ok(None);
-    };
-    let None = lines.next() else {
-        return Ok(None);
-    };
-    let Some(left) = read_line_word(alloc, first)? else {
-        return Ok(None);
-    };
-    let Some(right) = read_line_word(alloc, second)? else {
-        return Ok(None);
-    };
-    Ok(Some((left, right)))
-}
+use wb_base::Status;
 
 // Reduces the quotient of two words, within these limits.
 fn reduce(
@@ -90,11 +55,12 @@ pub(crate) fn compare(
 ) -> Result<Outcome, AllocError>
     requires handles { handles ≤ MAX_BOUND }
     requires limit { limit ≤ MAX_BOUND }
-    ensures outcome { IfOk result (λ outcome. compared_words handles limit (two_words input.now) ≡ Some (answer_of outcome)) }
+    ensures outcome { IfOk result (λ outcome. compared_words handles limit (two_words (MAX_INDEX + 1) input.now) ≡ Some (answer_of outcome)) }
     ensures known { IfOk result (λ outcome. (answer_of outcome).status ≢ Status.Words) }
 {
-    match read_two_words(alloc, input)? {
-        None => Ok(Outcome::BadInput),
-        Some((left, right)) => reduce(alloc, left, right, handles, limit),
+    match read_two_words(alloc, u32::from(MAX_INDEX) + 1, input) {
+        Ok((left, right)) => reduce(alloc, left, right, handles, limit),
+        Err(InputErr::Fault(fault)) => Ok(Outcome::BadInput(fault)),
+        Err(InputErr::Memory) => Err(AllocError),
     }
 }

@@ -1,10 +1,15 @@
 //! The top call of the program: from the words of its command line and its input to its output.
 #![tactic(auto)]
 
+mod acting;
+mod bench;
+mod checking;
 mod command;
 mod compare;
+mod input;
 mod outcome;
 mod program;
+mod tables;
 #[cfg(test)]
 mod tests;
 
@@ -13,3 +18,18 @@ pub use program::run;
 
 /// The most bytes of input.
 pub const MAX_INPUT: usize = 8_388_608;
+
+/// The most strands of `act`.
+pub const MAX_STRANDS: u32 = 64;
+
+/// The most generators that an image may be allowed to have.
+pub const MAX_IMAGE: u32 = 100_000;
+
+/// The most letters of a word that `bench` makes.
+pub const MAX_SIZE: u32 = 1_000;
+
+/// The most pairs that `bench` makes.
+pub const MAX_COUNT: u32 = 1_000;
+
+/// The greatest exponent of the size of a Laver table that is given whole.
+pub const MAX_PRINTED: u32 = 8;

@@ -1,13 +1,22 @@
-ghost use Rattle.std.specs.Prelude.{◌≡◌, ◌≢◌, ◌≤◌, ℕ, List};
+ghost use Rattle.std.specs.Prelude.{◌≡◌, ◌≢◌, ◌≤◌, ◌∷◌, ◌++◌, codes, ℕ, List};
+ghost use Rattle.wb_base.specs.Lines.{line};
+ghost use Rattle.free_word.specs.FreeText.{free_text};
+ghost use Rattle.trace_format.specs.TraceText.{verdict_word};
 ghost use Rattle.wb_base.specs.Streams.{HasCause, Puts, Rose};
-ghost use Rattle.wb_top.specs.Answers.{Told};
+ghost use Rattle.wb_top.specs.Answers.{Told, why_word, refused_text};
 ghost use Rattle.wb_top.specs.Outcomes.{answer_of};
 
 use crate::MAX_INPUT;
+use crate::bench::{Tally, put_tally};
+use crate::input::Fault;
+use crate::tables::{RowOf, put_whole};
 use braid_word::Word;
+use free_word::{FreeWord, put_free};
 use handle_reduce::Reducer;
+use laver_table::Table;
+use trace_check::Why;
 use trace_format::{Verdict, put_trace};
-use wb_base::{Failed, Sink, Status, put_line, put_numbered_line};
+use wb_base::{Failed, Sink, Status, give_all, put_line, put_numbered, put_numbered_line};
 
 /// What a command has come to, before it is written.
 #[derive(Debug, Drop)]
@@ -17,11 +26,13 @@ pub(crate) enum Outcome {
     /// The input has too many bytes.
     InputTooLong,
     /// The input isn't of the command's form.
-    BadInput,
+    BadInput(Fault),
     /// As many handles were reduced as may be.
     HandlesMet(u32),
     /// A word has more letters than it may.
     LengthMet(u32),
+    /// An image has more generators than it may.
+    ImageMet(u32),
     /// Two words were compared.
     Compared {
         left: Word,
@@ -29,6 +40,66 @@ pub(crate) enum Outcome {
         verdict: Verdict,
         reducer: Reducer,
     },
+    /// A trace file of this verdict is accepted.
+    Accepted(Verdict),
+    /// A trace file is refused at this line for this cause.
+    Refused(u64, Why),
+    /// A generator has this image.
+    Acted(FreeWord),
+    /// A Laver table was built.
+    WholeTable(Table),
+    /// A Laver table was built for one row.
+    TableRow(RowOf),
+    /// The runs of so many pairs were counted.
+    Tallied {
+        count: u32,
+        tally: Tally,
+    },
+}
+
+// A cause of refusal, behind a space, as it is written.
+fn why_text(why: Why) -> &'static [u8]
+    ensures { result.now ≡ 32 ∷ why_word why }
+{
+    match why {
+        Why::Form => b" form",
+        Why::Header => b" header",
+        Why::Step => b" step",
+        Why::Long => b" long",
+        Why::Witness => b" witness",
+        Why::Sign => b" sign",
+        Why::Truncated => b" truncated",
+        Why::Extra => b" extra",
+    }
+}
+
+// Gives the line of a refused file.
+fn put_refused<K: Sink>(sink: &mut K, line: u64, why: Why) -> Result<(), Failed>
+    ensures took { Puts (K.taken sink.old) (K.taken sink.new) result (refused_text line why) }
+    ensures cause { HasCause (K.faults sink.old) (K.faults sink.new) result }
+{
+    put_numbered(sink, b"refused ", line)?;
+    put_line(sink, why_text(why))
+}
+
+// The line of an accepted file, without its LF.
+fn accepted_line(verdict: Verdict) -> &'static [u8]
+    ensures { result.now ≡ codes "accepted " ++ verdict_word verdict }
+{
+    match verdict {
+        Verdict::Less => b"accepted less",
+        Verdict::Equal => b"accepted equal",
+        Verdict::Greater => b"accepted greater",
+    }
+}
+
+// Gives the line of an image.
+fn put_image<K: Sink>(sink: &mut K, image: &FreeWord) -> Result<(), Failed>
+    ensures took { Puts (K.taken sink.old) (K.taken sink.new) result (line (free_text image.now)) }
+    ensures cause { HasCause (K.faults sink.old) (K.faults sink.new) result }
+{
+    put_free(sink, image)?;
+    give_all(sink, b"\n")
 }
 
 impl Outcome {
@@ -38,9 +109,18 @@ impl Outcome {
     {
         match self {
             Outcome::Usage => Status::Words,
-            Outcome::BadInput => Status::Input,
-            Outcome::InputTooLong | Outcome::HandlesMet(_) | Outcome::LengthMet(_) => Status::Limit,
-            Outcome::Compared { .. } => Status::Done,
+            Outcome::BadInput(_) => Status::Input,
+            Outcome::InputTooLong
+            | Outcome::HandlesMet(_)
+            | Outcome::LengthMet(_)
+            | Outcome::ImageMet(_) => Status::Limit,
+            Outcome::Compared { .. }
+            | Outcome::Accepted(_)
+            | Outcome::Acted(_)
+            | Outcome::WholeTable(_)
+            | Outcome::TableRow(_)
+            | Outcome::Tallied { .. } => Status::Done,
+            Outcome::Refused(..) => Status::Refused,
         }
     }
 
@@ -52,13 +132,22 @@ impl Outcome {
         match self {
             Outcome::Usage => put_line(sink, b"usage: braid_bench COMMAND NUMBERS"),
             Outcome::InputTooLong => put_numbered_line(sink, b"limit input ", MAX_INPUT as u64),
-            Outcome::BadInput => put_line(sink, b"input refused"),
+            Outcome::BadInput(fault) => fault.put(sink),
             Outcome::HandlesMet(handles) => {
                 put_numbered_line(sink, b"limit handles ", u64::from(*handles))
             }
             Outcome::LengthMet(limit) => {
                 put_numbered_line(sink, b"limit length ", u64::from(*limit))
             }
+            Outcome::ImageMet(limit) => {
+                put_numbered_line(sink, b"limit image ", u64::from(*limit))
+            }
+            Outcome::Accepted(verdict) => put_line(sink, accepted_line(*verdict)),
+            Outcome::Refused(line, why) => put_refused(sink, *line, *why),
+            Outcome::Acted(image) => put_image(sink, image),
+            Outcome::WholeTable(table) => put_whole(sink, table),
+            Outcome::TableRow(row) => row.put(sink),
+            Outcome::Tallied { count, tally } => put_tally(sink, *count, tally),
             Outcome::Compared {
                 left,
                 right,

@@ -1,17 +1,21 @@
-ghost use Rattle.std.specs.Prelude.{◌≡◌, ◌≢◌, ◌+◌, ◌≤◌, ℕ, List, ◌⊎◌, IfOk, IfSome, Some, None, drop, map, string_bytes};
+ghost use Rattle.std.specs.Prelude.{◌≡◌, ◌≢◌, ◌+◌, ◌≤◌, ℕ, List, [], true, false, ◌⊎◌, IfOk, IfSome, Some, None, drop, map, string_bytes};
 ghost use Rattle.std.specs.Option.{option_map};
 ghost use Rattle.std.specs.Io.KnownBytes.{append_known};
 ghost use Rattle.wb_base.specs.Streams.{Rose, Skips};
-ghost use Rattle.wb_top.specs.Commands.{command_of, IsBounded};
+ghost use Rattle.wb_top.specs.Commands.{command_of, reads_input, IsBounded};
 ghost use Rattle.wb_top.specs.Answers.{Answer, Told, IsTold, usage, out, out_of, out_of_short};
 ghost use Rattle.wb_top.specs.Outcomes.{answer_of};
-ghost use Rattle.wb_top.specs.Promises.{Says};
+ghost use Rattle.wb_top.specs.Promises.{HasRefusal, Says};
 ghost use Rattle.wb_top.specs.declared.program.Stop.TheVariants.{Memory};
 
 use crate::MAX_INPUT;
+use crate::acting::act_on_input;
+use crate::bench::bench;
+use crate::checking::check_input;
 use crate::command::{Command, read_command};
 use crate::compare::compare;
 use crate::outcome::Outcome;
+use crate::tables::{build_row, build_table};
 use std::alloc::{AllocError, Global};
 use wb_base::{ReadErr, Sink, Source, Status, read_all};
 
@@ -41,12 +45,26 @@ fn perform_on(alloc: Global, command: Command, input: &[u8]) -> Result<Outcome, 
 {
     match command {
         Command::Compare { handles, limit } => Ok(compare(alloc, handles, limit, input)?),
+        Command::Check => Ok(check_input(alloc, input)?),
+        Command::Act {
+            strands,
+            index,
+            limit,
+        } => Ok(act_on_input(alloc, strands, index, limit, input)?),
+        Command::Laver { exponent } => Ok(build_table(alloc, exponent)?),
+        Command::Row { exponent, row } => Ok(build_row(alloc, exponent, row)?),
+        Command::Bench { pairs, count, seed } => Ok(bench(alloc, pairs, count, seed)?),
     }
 }
 
-// Reads the input of a command, and does it.
-fn perform<S: Source>(alloc: Global, command: Command, source: &mut S) -> Result<Outcome, Stop>
-    requires { IsBounded command }
+// Reads the input of a command that has one, and does it.
+fn perform_reading<S: Source>(
+    alloc: Global,
+    command: Command,
+    source: &mut S,
+) -> Result<Outcome, Stop>
+    requires bounded { IsBounded command }
+    requires reads { reads_input command ≡ true }
     ensures outcome { IfOk result (λ outcome. IfSome (S.left source.old) (λ input. out_of command input ≡ Some (answer_of outcome))) }
     ensures known { IfOk result (λ outcome. (answer_of outcome).status ≢ Status.Words) }
     ensures left { IfOk result (λ _. S.left source.new ≡ option_map (drop (MAX_INPUT + 1)) (S.left source.old)) }
@@ -63,10 +81,40 @@ fn perform<S: Source>(alloc: Global, command: Command, source: &mut S) -> Result
     }
 }
 
+// Does a command that has no input.
+fn perform_alone(alloc: Global, command: Command) -> Result<Outcome, Stop>
+    requires bounded { IsBounded command }
+    requires alone { reads_input command ≡ false }
+    ensures outcome { IfOk result (λ outcome. (input : List ℕ) → out_of command input ≡ Some (answer_of outcome)) }
+    ensures known { IfOk result (λ outcome. (answer_of outcome).status ≢ Status.Words) }
+    ensures stop { result ≢ Err Stop.ReadFault }
+{
+    perform_on(alloc, command, &[])
+}
+
+// Reads the input of a command, if it has one, and does it.
+fn perform<S: Source>(alloc: Global, command: Command, source: &mut S) -> Result<Outcome, Stop>
+    requires { IsBounded command }
+    ensures outcome { IfOk result (λ outcome. IfSome (S.left source.old) (λ input. out_of command input ≡ Some (answer_of outcome))) }
+    ensures known { IfOk result (λ outcome. (answer_of outcome).status ≢ Status.Words) }
+    ensures left { IfOk result (λ _. reads_input command ≡ true → S.left source.new ≡ option_map (drop (MAX_INPUT + 1)) (S.left source.old)) }
+    ensures alone { reads_input command ≡ false → (source.new ≡ source.old) × (result ≢ Err Stop.ReadFault) × IfOk result (λ outcome. (input : List ℕ) → out_of command input ≡ Some (answer_of outcome)) }
+    ensures front { (n : ℕ) × (n ≤ MAX_INPUT + 1) × Skips (S.left source.old) (S.left source.new) n }
+    ensures fault { result ≡ Err Stop.ReadFault → Rose (S.faults source.old) (S.faults source.new) }
+    ensures later { S.faults source.old ≤ S.faults source.new }
+    ensures calls { S.calls source.new ≤ S.calls source.old + (MAX_INPUT + 2) }
+{
+    if command.reads_input() {
+        perform_reading(alloc, command, source)
+    } else {
+        perform_alone(alloc, command)
+    }
+}
+
 /// Does all that the program does: `words` are the words of its command line after its name.
 ///
-/// It reads the input to its end, or to one byte past its limit, and writes the answer, which is a
-/// function of the words and the input. Nothing is written after a fault of the source or for want of
+/// It reads the input of a command that has one, to its end or to one byte past its limit, and writes the
+/// answer, which is a function of the words and the input. Nothing is written after a fault of the source or for want of
 /// memory; after a fault of the sink a front of the answer was taken. Words that are no command read
 /// nothing, and never end for want of memory.
 pub fn run<S: Source, K: Sink>(
@@ -82,6 +130,10 @@ pub fn run<S: Source, K: Sink>(
     // What a command that is done has written is the answer, and what that says of the input holds.
     ensures says { result ≡ Status.Done → IfSome (S.left source.old) (λ input. IfSome (command_of (map string_bytes words.now)) (λ command.
         (a : Answer) × (out (map string_bytes words.now) input ≡ Some a) × (K.taken sink.new ≡ append_known (K.taken sink.old) a.text) × Says command input a.text)) }
+
+    // What `check` refuses isn't accepted, as any trace, and what was written is its first refusal.
+    ensures refused { result ≡ Status.Refused → IfSome (S.left source.old) (λ input.
+        (text : List ℕ) × HasRefusal input text × (K.taken sink.new ≡ append_known (K.taken sink.old) text)) }
 
     // Words that are no command are told so, with nothing read; no others are.
     ensures usage { command_of (map string_bytes words.now) ≡ None →
@@ -100,9 +152,17 @@ pub fn run<S: Source, K: Sink>(
     ensures passed { result ≢ Status.ReadFault → result ≢ Status.WriteFault → result ≢ Status.Memory → K.waiting sink.new ≡ 0 }
     ensures waits { result ≢ Status.WriteFault → K.waiting sink.old ≡ 0 → K.waiting sink.new ≡ 0 }
 
-    // With an answer to a command the input was read to its end, or to one byte past its limit.
+    // With an answer to a command that has an input this was read to its end, or to one byte past its limit.
     ensures left { (result ≡ Status.Done) ⊎ (result ≡ Status.Refused) ⊎ (result ≡ Status.Input) ⊎ (result ≡ Status.Limit) →
-        S.left source.new ≡ option_map (drop (MAX_INPUT + 1)) (S.left source.old) }
+        IfSome (command_of (map string_bytes words.now)) (λ command. reads_input command ≡ true →
+        S.left source.new ≡ option_map (drop (MAX_INPUT + 1)) (S.left source.old)) }
+
+    // A command that has none reads nothing, and its answer and what that says stand also where the source
+    // tells nothing.
+    ensures alone { IfSome (command_of (map string_bytes words.now)) (λ command. reads_input command ≡ false →
+        (source.new ≡ source.old) × (result ≢ Status.ReadFault) × IsTold (out (map string_bytes words.now) []) result (K.taken sink.old) (K.taken sink.new)) }
+    ensures says_alone { result ≡ Status.Done → IfSome (command_of (map string_bytes words.now)) (λ command. reads_input command ≡ false →
+        (text : List ℕ) × Says command [] text × (K.taken sink.new ≡ append_known (K.taken sink.old) text)) }
 
     // In every case a front of it was taken, no further than that byte, in at most so many calls.
     ensures front { (n : ℕ) × (n ≤ MAX_INPUT + 1) × Skips (S.left source.old) (S.left source.new) n }

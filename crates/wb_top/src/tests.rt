@@ -10,10 +10,12 @@ type Row<'a> = (&'a str, &'a [u8], Status, &'a [u8]);
 
 const USAGE: &[u8] = b"usage: braid_bench COMMAND NUMBERS\n";
 
-const REFUSED: &[u8] = b"input refused\n";
-
 // The answer to the words `1` and `2`.
 const GREATER: &[u8] = b"braid-trace 1\nleft 1\nright 2\nverdict greater\nwitness -1 2\nend\n";
+
+// The answer to the words `1 2` and `2 1`.
+const LESS: &[u8] =
+    b"braid-trace 1\nleft 1 2\nright 2 1\nh 2 4\nh 1 2\nverdict less\nwitness 1 -2\nend\n";
 
 // The answer to two empty words.
 const EQUAL: &[u8] = b"braid-trace 1\nleft\nright\nverdict equal\nwitness\nend\n";
@@ -69,17 +71,13 @@ fn assert_rows(
 
 #[test]
 fn writes_a_trace_or_the_limit_that_was_met(rt: HostRuntime) -> Result<(), Fail> {
-    let rows: [Row; 14] = [
+    let rows: [Row; 15] = [
         ("compare 0 0", b"\n\n", Status::Done, EQUAL),
         ("compare 10 10", b"1\n2\n", Status::Done, GREATER),
         ("compare 10 10", b" 1 \n2", Status::Done, GREATER),
         ("compare 100000 100000", b"1\n2\n", Status::Done, GREATER),
-        (
-            "compare 2 4",
-            b"1 2\n2 1\n",
-            Status::Done,
-            b"braid-trace 1\nleft 1 2\nright 2 1\nh 2 4\nh 1 2\nverdict less\nwitness 1 -2\nend\n",
-        ),
+        ("compare 2 4", b"1 2\n2 1\n", Status::Done, LESS),
+        ("compare 2 4", b"ab\nba\n", Status::Done, LESS),
         (
             "compare 1 4",
             b"1 2\n2 1\n",
@@ -134,30 +132,206 @@ fn writes_a_trace_or_the_limit_that_was_met(rt: HostRuntime) -> Result<(), Fail>
 }
 
 #[test]
-fn refuses_input_that_is_not_two_words(rt: HostRuntime) -> Result<(), Fail> {
-    let inputs: [&[u8]; 9] = [
-        b"",
-        b"\n",
-        b"1\n",
-        b"1\n1\n1\n",
-        b"256\n1\n",
-        b"1 02\n1\n",
-        b"1\n0\n",
-        b"1\n\xff\n",
-        b"a\nb\n",
+fn says_what_is_wrong_with_an_input(rt: HostRuntime) -> Result<(), Fail> {
+    let rows: [(&str, &[u8], &[u8]); 20] = [
+        ("compare 9 9", b"", b"input 1 lines\n"),
+        ("compare 9 9", b"\n", b"input 2 lines\n"),
+        ("compare 9 9", b"1\n", b"input 2 lines\n"),
+        ("compare 9 9", b"1\n1\n1\n", b"input 3 lines\n"),
+        ("compare 9 9", b"256\n1\n", b"input 1 index 1\n"),
+        ("compare 9 9", b"256\n", b"input 1 index 1\n"),
+        ("compare 9 9", b"1 02\n1\n", b"input 1 letter 3\n"),
+        ("compare 9 9", b"1\n0\n", b"input 2 index 1\n"),
+        ("compare 9 9", b"1\n2 -0\n1\n", b"input 2 index 3\n"),
+        ("compare 9 9", b"1\n\xff\n", b"input 2 letter 1\n"),
+        ("compare 9 9", b"ab1\n1\n", b"input 1 letter 3\n"),
+        ("compare 9 9", b"a\n z\n", b"input 2 letter 2\n"),
+        ("compare 9 9", b"1a\na\n", b"input 1 letter 1\n"),
+        (
+            "compare 9 9",
+            b"123456789012345678901234567890\n1\n",
+            b"input 1 index 1\n",
+        ),
+        ("act 2 1 9", b"", b"input 1 lines\n"),
+        ("act 2 1 9", b"2\n", b"input 1 strands 1\n"),
+        ("act 3 1 9", b"1 -2 1 -3 4\n", b"input 1 strands 4\n"),
+        ("act 2 1 9", b"2 0\n", b"input 1 index 3\n"),
+        ("act 2 1 9", b"1\n1\n", b"input 2 lines\n"),
+        ("act 2 1 9", b"2\n1\n", b"input 1 strands 1\n"),
     ];
-    for input in inputs {
-        let row = ("compare 9 9", input, Status::Input, REFUSED);
-        assert_rows(&rt, rt.alloc(), &[row], &[])?;
+    for (line, input, text) in rows {
+        assert_rows(&rt, rt.alloc(), &[(line, input, Status::Input, text)], &[])?;
     }
     Ok(())
+}
+
+#[test]
+fn refuses_a_word_of_too_many_letters(rt: HostRuntime) -> Result<(), Fail> {
+    let alloc = rt.alloc();
+    let mut input = Vec::new(alloc);
+    for _ in 0..100_001 {
+        input.extend_from_slice(b"1 ")?;
+    }
+    let text = b"input 1 long 100001\n";
+    Ok(assert_rows(
+        &rt,
+        alloc,
+        &[("compare 9 9", &input, Status::Input, text)],
+        &[],
+    )?)
+}
+
+#[test]
+fn checks_a_trace_file_of_any_maker(rt: HostRuntime) -> Result<(), Fail> {
+    let rows: [(&[u8], Status, &[u8]); 13] = [
+        (LESS, Status::Done, b"accepted less\n"),
+        (EQUAL, Status::Done, b"accepted equal\n"),
+        (GREATER, Status::Done, b"accepted greater\n"),
+        (
+            b"braid-trace 1\nleft 1 2 1\nright 2 1 2\ns 4\nd 3\nd 2\nd 1\nverdict equal\nwitness\nend\n",
+            Status::Done,
+            b"accepted equal\n",
+        ),
+        (
+            b"braid-trace 1\nleft 1 3\nright 3 1\nc 2\nd 1\nd 1\nverdict equal\nwitness\nend\n",
+            Status::Done,
+            b"accepted equal\n",
+        ),
+        (
+            b"braid-trace 1\nleft\nright 2\ni 1 3\nverdict less\nwitness 3 -3 2\nend\n",
+            Status::Done,
+            b"accepted less\n",
+        ),
+        (b"", Status::Refused, b"refused 1 truncated\n"),
+        (
+            b"braid-trace 1\nright 1\n",
+            Status::Refused,
+            b"refused 2 header\n",
+        ),
+        (
+            b"braid-trace 1\nleft 1\nright 1\nh 1 2\nh 1 2\n",
+            Status::Refused,
+            b"refused 5 step\n",
+        ),
+        (
+            b"braid-trace 1\nleft 1\nright 1\nd 2\n",
+            Status::Refused,
+            b"refused 4 step\n",
+        ),
+        (
+            b"braid-trace 1\nleft 1\nright 1\ni 4 1\n",
+            Status::Refused,
+            b"refused 4 step\n",
+        ),
+        (
+            b"braid-trace 1\nleft 1\nright 1\ni 1 256\n",
+            Status::Refused,
+            b"refused 4 form\n",
+        ),
+        (
+            b"braid-trace 1\nleft\nright 1 -1\nverdict less\nwitness 1 -1\n",
+            Status::Refused,
+            b"refused 5 sign\n",
+        ),
+    ];
+    for (input, status, text) in rows {
+        assert_rows(&rt, rt.alloc(), &[("check", input, status, text)], &[])?;
+    }
+    Ok(())
+}
+
+#[test]
+fn gives_the_image_of_a_generator(rt: HostRuntime) -> Result<(), Fail> {
+    let rows: [Row; 8] = [
+        ("act 3 1 10", b"1 1\n", Status::Done, b"1 2 1 -2 -1\n"),
+        ("act 3 1 3", b"1 1\n", Status::Limit, b"limit image 3\n"),
+        ("act 3 1 5", b"1 1\n", Status::Done, b"1 2 1 -2 -1\n"),
+        ("act 2 1 10", b"1 -1\n", Status::Done, b"1\n"),
+        ("act 2 1 1", b"\n", Status::Done, b"1\n"),
+        ("act 2 1 9", b"-1\n", Status::Done, b"2\n"),
+        ("act 2 2 9", b"-1\n", Status::Done, b"-2 1 2\n"),
+        ("act 64 64 1", b"63\n", Status::Done, b"63\n"),
+    ];
+    Ok(assert_rows(&rt, rt.alloc(), &rows, &[])?)
+}
+
+#[test]
+fn gives_laver_tables_and_reads_nothing(rt: HostRuntime) -> Result<(), Fail> {
+    let rows: [Row; 4] = [
+        ("laver 0", b"x", Status::Done, b"1\n"),
+        (
+            "laver 2",
+            b"x",
+            Status::Done,
+            b"2 4 2 4\n3 4 3 4\n4 4 4 4\n1 2 3 4\n",
+        ),
+        (
+            "row 4 1",
+            b"x",
+            Status::Done,
+            b"2 12 14 16 2 12 14 16 2 12 14 16 2 12 14 16\n",
+        ),
+        ("row 3 2", b"x", Status::Done, b"3 4 7 8 3 4 7 8\n"),
+    ];
+    Ok(assert_rows(&rt, rt.alloc(), &rows, &[0])?)
+}
+
+#[test]
+fn counts_the_runs_of_pairs_that_it_makes(rt: HostRuntime) -> Result<(), Fail> {
+    let rows: [Row; 3] = [
+        (
+            "bench 2 1 1 0 10 10",
+            b"",
+            Status::Done,
+            b"pairs 1\nless 0\nequal 0\ngreater 1\nhandles-met 0\nlength-met 0\nhandles 0\n",
+        ),
+        (
+            "bench 5 0 3 7 0 0",
+            b"",
+            Status::Done,
+            b"pairs 3\nless 0\nequal 3\ngreater 0\nhandles-met 0\nlength-met 0\nhandles 0\n",
+        ),
+        (
+            "bench 2 1 1 0 10 1",
+            b"",
+            Status::Done,
+            b"pairs 1\nless 0\nequal 0\ngreater 0\nhandles-met 0\nlength-met 1\nhandles 0\n",
+        ),
+    ];
+    Ok(assert_rows(&rt, rt.alloc(), &rows, &[0])?)
 }
 
 #[test]
 fn reads_nothing_for_words_that_are_no_command(rt: HostRuntime) -> Result<(), Fail> {
     let lines = [
         "",
-        "check",
+        "check 1",
+        "act",
+        "act 3 1",
+        "act 1 1 9",
+        "act 65 1 9",
+        "act 3 0 9",
+        "act 3 4 9",
+        "act 3 1 0",
+        "act 3 1 100001",
+        "act 3 1 9 9",
+        "laver",
+        "laver 9",
+        "laver 1 1",
+        "row 3",
+        "row 11 1",
+        "row 3 0",
+        "row 3 9",
+        "row 3 1 1",
+        "bench",
+        "bench 1 1 1 0 1 1",
+        "bench 65 1 1 0 1 1",
+        "bench 2 1001 1 0 1 1",
+        "bench 2 1 0 0 1 1",
+        "bench 2 1 1001 0 1 1",
+        "bench 2 1 1 18446744073709551616 1 1",
+        "bench 2 1 1 0 1 100001",
+        "bench 2 1 1 0 1 1 1",
         "--help",
         "compare",
         "compare 1",
@@ -246,7 +420,7 @@ fn reads_input_of_8388608_bytes_and_no_more(rt: HostRuntime) -> Result<(), Fail>
     let most = spaces(alloc, 8_388_608)?;
     let more = spaces(alloc, 8_388_609)?;
     let rows: [Row; 2] = [
-        ("compare 9 9", &most, Status::Input, REFUSED),
+        ("compare 9 9", &most, Status::Input, b"input 2 lines\n"),
         (
             "compare 9 9",
             &more,

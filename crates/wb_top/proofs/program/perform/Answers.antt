@@ -1,27 +1,6 @@
-use Rattle.std.proofs.Common.{◌+◌, ap, sym, ◌∙◌, arith}
 use Rattle.std.proofs.lemmas.Result.{IfOk-weaker}
-use Rattle.wb_top.specs.declared.TheConstants.{MAX_INPUT}
-use Rattle.wb_top.specs.Answers.{out_of_short}
-use Rattle.wb_top.specs.Outcomes.{answer_of}
-use Rattle.wb_top.proofs.AnswerLemmas.{out_of-short, left-short, out_of-long, left-long}
 use Rattle.wb_top.proofs.program.perform.Goals as goal
 
-pub returns-in-Ok-clause-outcome : goal.returns-in-Ok-clause-outcome
-returns-in-Ok-clause-outcome g c =
-    IfOk-weaker _ _ _ (λ outcome is. out_of-short c.args.command _ _ _ (answer_of outcome) c.in-Ok.ensures.all c.in-Ok.ensures.within (ap (out_of_short c.args.command) (sym c.deref.ensures.value) ∙ is)) c.perform_on.ensures.outcome
-
-pub returns-in-Ok-clause-left : goal.returns-in-Ok-clause-left
-returns-in-Ok-clause-left g c =
-    IfOk-weaker _ _ _ (λ outcome is. left-short _ _ _ MAX_INPUT c.in-Ok.ensures.all c.in-Ok.ensures.within) c.perform_on.ensures.outcome
-
-pub returns-in-Err-TooLarge-clause-outcome : goal.returns-in-Err-TooLarge-clause-outcome
-returns-in-Err-TooLarge-clause-outcome g c =
-    out_of-long _ _ _ (rw c.in-Err-TooLarge.field-0-is at c.in-Err-TooLarge.ensures.refused)
-
-pub returns-in-Err-TooLarge-clause-left : goal.returns-in-Err-TooLarge-clause-left
-returns-in-Err-TooLarge-clause-left g c =
-    left-long _ _ _ (rw c.in-Err-TooLarge.field-0-is at c.in-Err-TooLarge.ensures.refused)
-
-pub returns-in-Err-TooLarge-clause-front : goal.returns-in-Err-TooLarge-clause-front
-returns-in-Err-TooLarge-clause-front g c =
-    (MAX_INPUT + 1, omega arith, rw c.in-Err-TooLarge.field-0-is at c.in-Err-TooLarge.ensures.refused)
+pub returns-then-reads_input-clause-left : goal.returns-then-reads_input-clause-left
+returns-then-reads_input-clause-left g c =
+    IfOk-weaker c.perform_reading.result _ _ (λ outcome left reads. left) c.perform_reading.ensures.left

@@ -1,0 +1,12 @@
+use Rattle.std.proofs.Common.{sym, map, string_bytes}
+use Rattle.std.proofs.lemmas.List.{length-map}
+use Rattle.wb_top.proofs.CommandLemmas.{compare_of-few, compare_of-many}
+use Rattle.wb_top.proofs.command.read_compare.Goals as goal
+
+pub returns-in_default-clause-command : goal.returns-in_default-clause-command
+returns-in_default-clause-command c =
+    sym (compare_of-few (map string_bytes c.args.numbers.now) (rw length-map c.in_default.len_below))
+
+pub returns-in_default-2-clause-command : goal.returns-in_default-2-clause-command
+returns-in_default-2-clause-command c =
+    sym (compare_of-many (map string_bytes c.args.numbers.now) (rw length-map c.in_default.len_at_least))

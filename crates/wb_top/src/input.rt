@@ -1,0 +1,142 @@
+ghost use Rattle.std.specs.Prelude.{◌≡◌};
+ghost use Rattle.std.specs.List.{position};
+ghost use Rattle.wb_base.specs.Streams.{HasCause, Puts};
+ghost use Rattle.wb_top.specs.Inputs.{fault_text, first_beyond, numbered_fault, one_word, two_words, word_on};
+ghost use Rattle.wb_top.specs.Reading.{Reads, read_fault};
+ghost use Rattle.wb_top.specs.declared.input.Fault.TheVariants.{Lines};
+
+use braid_word::{Letter, Word, WordErr, read_word};
+use std::alloc::Global;
+use wb_base::{Failed, Sink, lines, put_line, put_numbered, put_numbered_line};
+
+/// What is wrong with an input, at a line that is counted from 1.
+#[derive(Clone, Copy, Debug, PartialEq, Eq)]
+pub enum Fault {
+    /// The line is missing, or is one too many.
+    Lines(u64),
+    /// A piece that is no letter begins at this byte of the line, counted from 1.
+    Letters(u64, u64),
+    /// A number that is no index begins at this byte of the line, counted from 1.
+    Index(u64, u64),
+    /// The word has so many letters, which are too many.
+    Long(u64, u64),
+    /// The letter at this place of the word, counted from 1, is the first whose index isn't below the
+    /// number of strands.
+    Strands(u64, u64),
+}
+
+impl Fault {
+    /// Gives the line that says what is wrong.
+    pub(crate) fn put<K: Sink>(&self, sink: &mut K) -> Result<(), Failed>
+        ensures took { Puts (K.taken sink.old) (K.taken sink.new) result (fault_text self.now) }
+        ensures cause { HasCause (K.faults sink.old) (K.faults sink.new) result }
+    {
+        match *self {
+            Fault::Lines(line) => put_bare(sink, line),
+            Fault::Letters(line, place) => put_fault(sink, line, b" letter ", place),
+            Fault::Index(line, place) => put_fault(sink, line, b" index ", place),
+            Fault::Long(line, count) => put_fault(sink, line, b" long ", count),
+            Fault::Strands(line, place) => put_fault(sink, line, b" strands ", place),
+        }
+    }
+}
+
+// Gives the line of a fault without a number.
+fn put_bare<K: Sink>(sink: &mut K, line: u64) -> Result<(), Failed>
+    ensures took { Puts (K.taken sink.old) (K.taken sink.new) result (fault_text (Lines line)) }
+    ensures cause { HasCause (K.faults sink.old) (K.faults sink.new) result }
+{
+    put_numbered(sink, b"input ", line)?;
+    put_line(sink, b" lines")
+}
+
+// Gives the line of a fault by its name and its number.
+fn put_fault<K: Sink>(sink: &mut K, line: u64, name: &[u8], number: u64) -> Result<(), Failed>
+    ensures took { Puts (K.taken sink.old) (K.taken sink.new) result (numbered_fault line name.now number) }
+    ensures cause { HasCause (K.faults sink.old) (K.faults sink.new) result }
+{
+    put_numbered(sink, b"input ", line)?;
+    put_numbered_line(sink, name, number)
+}
+
+/// Why an input isn't read.
+#[derive(Debug, Drop)]
+pub(crate) enum InputErr {
+    /// It has this fault.
+    Fault(Fault),
+    /// Memory ran out.
+    Memory,
+}
+
+// Why a word isn't read.
+fn input_err(line: u64, error: WordErr) -> InputErr
+    ensures { result ≡ read_fault line error }
+{
+    match error {
+        WordErr::BadLetter { place } => InputErr::Fault(Fault::Letters(line, place)),
+        WordErr::BadIndex { place } => InputErr::Fault(Fault::Index(line, place)),
+        WordErr::TooLong { count } => InputErr::Fault(Fault::Long(line, count)),
+        WordErr::Memory => InputErr::Memory,
+    }
+}
+
+// The place of the first letter that isn't on so many strands.
+fn first_beyond(letters: &[Letter], strands: u32) -> Option<usize>
+    ensures { result ≡ first_beyond strands letters.now }
+{
+    letters
+        .iter()
+        .position(|letter| u32::from(letter.index) >= strands)
+}
+
+// The word of a line, on so many strands.
+fn read_on(alloc: Global, strands: u32, line: u64, text: &[u8]) -> Result<Word, InputErr>
+    ensures { Reads result (word_on strands line text.now) }
+{
+    let word = match read_word(alloc, text) {
+        Ok(word) => word,
+        Err(error) => return Err(input_err(line, error)),
+    };
+    match first_beyond(word.letters(), strands) {
+        None => Ok(word),
+        Some(place) => Err(InputErr::Fault(Fault::Strands(line, place as u64 + 1))),
+    }
+}
+
+/// The word of an input of exactly one line, on so many strands.
+pub(crate) fn read_one_word(alloc: Global, strands: u32, input: &[u8]) -> Result<Word, InputErr>
+    ensures { Reads result (one_word strands input.now) }
+{
+    let mut lines = lines(input);
+    let Some(text) = lines.next() else {
+        return Err(InputErr::Fault(Fault::Lines(1)));
+    };
+    let word = read_on(alloc, strands, 1, text)?;
+    match lines.next() {
+        None => Ok(word),
+        Some(_) => Err(InputErr::Fault(Fault::Lines(2))),
+    }
+}
+
+/// The words of an input of exactly two lines, on so many strands.
+pub(crate) fn read_two_words(
+    alloc: Global,
+    strands: u32,
+    input: &[u8],
+) -> Result<(Word, Word), InputErr>
+    ensures { Reads result (two_words strands input.now) }
+{
+    let mut lines = lines(input);
+    let Some(first) = lines.next() else {
+        return Err(InputErr::Fault(Fault::Lines(1)));
+    };
+    let left = read_on(alloc, strands, 1, first)?;
+    let Some(second) = lines.next() else {
+        return Err(InputErr::Fault(Fault::Lines(2)));
+    };
+    let right = read_on(alloc, strands, 2, second)?;
+    match lines.next() {
+        None => Ok((left, right)),
+        Some(_) => Err(InputErr::Fault(Fault::Lines(3))),
+    }
+}
