@@ -3,7 +3,7 @@
 -- Any two ways between the same orders are equivalent (`EquivalentOn-ways`). The half turn passes a
 -- letter and turns its index i into n - i (`EquivalentOn-delta_pass`): it can begin with the one letter and end
 -- with the other. So a simple braid behind a half turn is its flip before it, and an inverse letter
--- is an inverse half turn and a simple braid.
+-- is a simple braid and an inverse half turn.
 use Rattle.std.proofs.Common.{ℕ, ◌≡◌, inl, inr, ◌+◌, ◌-◌, ◌<◌, ◌≤◌, ◌∙◌, Bool, true, false, List, [], ◌∷◌, ◌++◌, length, append_assoc, append-nil, map, reverse, refl, sym, ap, subst, arith}
 use Rattle.std.specs.Prelude.{nat_lt}
 use Rattle.std.proofs.lemmas.Bool.{lt-ltb, ltb-true}
@@ -15,7 +15,7 @@ use Rattle.perm_braid.specs.SimpleWords.{generator, delta_word, IsWordOf}
 use Rattle.perm_braid.proofs.PlaceLemmas.{same_entries, entry-map, entry-reverse, IsOrder-identity, IsOrder-half_turn, place_of-half_turn, entry-identity, length-identity}
 use Rattle.perm_braid.proofs.SwapLemmas.{neighbour_case, length-swapped, entry-swapped, entry-flip, IsOrder-swapped, IsOrder-flip}
 use Rattle.perm_braid.proofs.SortingLemmas.{IsSorting, sorted, step, IsSorting-equivalent}
-use Rattle.perm_braid.proofs.SimpleWordLemmas.{swapped-map, IsOn-word, word_exists, IsWordOf-front}
+use Rattle.perm_braid.proofs.SimpleWordLemmas.{swapped-map, word_exists, IsWordOf-front}
 use Rattle.garside_form.proofs.SortLemmas.{Leads, done, turn}
 use Rattle.garside_form.proofs.SettleLemmas.{IsBefore, IsStrand, neighbours_before, before-swapped, relative, IsOrder-relative, leads_to}
 use Rattle.garside_form.proofs.LevelLemmas.{IsOrder-reverse, before-reverse}
@@ -273,21 +273,10 @@ EquivalentOn-flip {n} {p} {u} {v} order one two =
     EquivalentOn-ways (IsOrder-reverse in_z) (IsOrder-reverse in_x) (IsWay-mirrored in_z in_x (IsWay-word in_x order one))
     (rw (composed-flip in_x order) at (IsWay-word (IsOrder-reverse in_x) (IsOrder-flip order) two))
 
--- a simple braid behind a half turn is its flip before it
-pub EquivalentOn-delta_factor
-    : {n : ℕ} {p : List ℕ} {u v : List Letter}
-    → IsOrder n p
-    → IsWordOf n p u
-    → IsWordOf n (flip p) v
-    → EquivalentOn n (delta_word n ++ u) (v ++ delta_word n)
-EquivalentOn-delta_factor {n} {p} {u} {v} order one two =
-    EquivalentOn-trans (EquivalentOn-delta_pass n u (IsOn-word one))
-    (EquivalentOn-before (delta_word n) (IsOn-way (IsWay-delta (IsOrder-identity n))) (EquivalentOn-flip order one two))
-
 -- ---- Inverse letters ----
 
 -- from the identity a simple braid leads to its arrangement
-composed_identity_left : {n : ℕ} {p : List ℕ} → IsOrder n p → composed (identity n) p ≡ p
+pub composed_identity_left : {n : ℕ} {p : List ℕ} → IsOrder n p → composed (identity n) p ≡ p
 composed_identity_left {n} {p} order =
     let whole = IsOrder-composed (IsOrder-identity n) order in
     same_entries (composed (identity n) p) p (whole.size ∙ sym order.size)
@@ -304,26 +293,24 @@ EquivalentOn-half_turn {n} {u} word =
     let way : IsWay n (half_turn n) (identity n) u = rw (composed_identity_left in_z) at (IsWay-word in_x in_z word) in
     EquivalentOn-ways in_z in_x way (IsWay-delta in_x)
 
--- an inverse letter is an inverse half turn and the half turn without that letter
+-- an inverse letter is the half turn without that letter in front, before an inverse half turn
 pub EquivalentOn-inverse_letter
     : {n : ℕ} (i : ℕ) {u : List Letter}
     → 1 ≤ i
     → i < n
-    → IsWordOf n (values_swapped (n - i) (half_turn n)) u
-    → EquivalentOn n (letter i true ∷ []) (inverse (delta_word n) ++ u)
+    → IsWordOf n (values_swapped i (half_turn n)) u
+    → EquivalentOn n (letter i true ∷ []) (u ++ inverse (delta_word n))
 EquivalentOn-inverse_letter {n} i {u} low high word =
-    let j = n - i in
     let whole = IsOrder-half_turn n in
     let (v, v_is) = word_exists whole in
-    let here = place_of-half_turn n j (omega arith) (omega arith) in
-    let next = place_of-half_turn n (j + 1) (omega arith) (omega arith) in
-    let left : IsLeftDescent (half_turn n) j = omega (arith, here, next) in
-    let front = IsWordOf-front whole j (omega arith) (omega arith) left v_is word in
-    let split : EquivalentOn n (generator j ∷ u) (delta_word n) =
+    let here = place_of-half_turn n i low (omega arith) in
+    let next = place_of-half_turn n (i + 1) (omega arith) (omega arith) in
+    let left : IsLeftDescent (half_turn n) i = omega (arith, here, next) in
+    let front = IsWordOf-front whole i low high left v_is word in
+    let split : EquivalentOn n (generator i ∷ u) (delta_word n) =
     EquivalentOn-trans (EquivalentOn-sym front) (EquivalentOn-half_turn v_is) in
-    let rest : EquivalentOn n u (letter j true ∷ delta_word n) = EquivalentOn-solve_left (generator j ∷ []) u split in
-    EquivalentOn-solve_left (delta_word n) (letter i true ∷ [])
-    (EquivalentOn-trans (EquivalentOn-delta_letter n i true low high) (EquivalentOn-sym rest))
+    let rest : EquivalentOn n u (letter i true ∷ delta_word n) = EquivalentOn-solve_left (generator i ∷ []) u split in
+    EquivalentOn-solve_right (letter i true ∷ []) (delta_word n) (EquivalentOn-sym rest)
 
 -- ---- Letters before inverse half turns ----
 

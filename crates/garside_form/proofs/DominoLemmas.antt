@@ -7,17 +7,19 @@
 -- pair before one that ends on the left.
 use Rattle.std.proofs.Common.{ℕ, zero, suc, ◌≡◌, inl, inr, ◌+◌, ◌-◌, ◌<◌, ◌≤◌, ◌∙◌, List, refl, sym, ap, subst, arith}
 use Rattle.std.proofs.lemmas.Bool.{cases_lt}
-use Rattle.perm_braid.specs.Arrangements.{entry, place_of, swapped, values_swapped, identity, IsOrder}
+use Rattle.perm_braid.specs.Arrangements.{entry, place_of, swapped, values_swapped, flip, identity, half_turn, IsOrder, IsLeftDescent}
 use Rattle.perm_braid.specs.GreedyPairs.{IsGreedy, IsMove, Moves, done, move}
-use Rattle.perm_braid.proofs.PlaceLemmas.{place_low, IsOrder-entry, IsOrder-identity}
-use Rattle.perm_braid.proofs.SwapLemmas.{IsOrder-swapped, IsOrder-values_swapped}
+use Rattle.perm_braid.proofs.PlaceLemmas.{place_low, IsOrder-entry, IsOrder-identity, IsOrder-half_turn, entry-half_turn, place_of-half_turn}
+use Rattle.perm_braid.proofs.SwapLemmas.{neighbour_is, place_of-values_swapped, IsOrder-swapped, IsOrder-values_swapped}
 use Rattle.perm_braid.proofs.SortingLemmas.{entries_rise}
 use Rattle.perm_braid.proofs.SimpleWordLemmas.{swapped-map}
 use Rattle.perm_braid.proofs.MoveLemmas.{IsOrder-moves_first, IsOrder-moves_second}
 use Rattle.garside_form.proofs.SortLemmas.{Leads, done as leads_done, turn}
 use Rattle.garside_form.proofs.ComposedLemmas.{composed, entry-composed, IsOrder-composed, place_of-composed, composed-swapped}
+use Rattle.garside_form.proofs.DeltaLemmas.{composed_identity_left}
+use Rattle.garside_form.proofs.FlipLemmas.{left_descent-flip}
 use Rattle.garside_form.proofs.UniqueLemmas.{greedy_settled}
-use Rattle.garside_form.proofs.SettleLemmas.{IsBefore, IsStrand, strand_same, before_or, before_differ, neighbours_before, descends, descends_from, settle, IsSettled, IsOrder-settle, IsSettled-settle, settle-is, settle-turned, IsSettled-from, settled_at}
+use Rattle.garside_form.proofs.SettleLemmas.{IsBefore, IsStrand, strand_same, before_or, before_differ, neighbours_before, descends, descends_parts, descends_from, Leads-before, settle, IsSettled, IsOrder-settle, IsSettled-settle, settle-is, settle-turned, IsSettled-from, settled_at}
 
 -- Neighbours of x of which the first is past the place i of y, and the second isn't.
 pub record Falls (x y : List ℕ) (i first last k : ℕ) : Type 0 where
@@ -305,3 +307,77 @@ IsGreedy-domino_right {n} {o} {p} {q} {r} {s} {t} {u} in_o in_p in_q greedy move
     let turned : IsSettled (composed x t) (composed (composed x t) u) (composed (composed (composed x t) u) s) =
     rw (fourth, fifth) placed in
     IsGreedy-settled (IsOrder-composed in_x in_t) in_u in_s turned
+
+-- ---- Pairs that become a half turn ----
+
+-- where a pair becomes the half turn and another, each left descent of this one comes of the first
+left_descent-half_turn
+    : {n : ℕ} {p q s : List ℕ} (i : ℕ)
+    → IsOrder n p
+    → IsOrder n q
+    → Moves n p q (half_turn n) s
+    → 1 ≤ i
+    → i < n
+    → IsLeftDescent s i
+    → IsLeftDescent p (n - i)
+left_descent-half_turn {n} {p} {q} {s} i in_p in_q moves low high left =
+    let x = identity n in
+    let in_x = IsOrder-identity n in
+    let whole = IsOrder-half_turn n in
+    let taken = taken_moves x in_x in_p in_q moves in
+    let in_s = IsOrder-moves_second in_q moves in
+    let end : composed (half_turn n) s ≡ composed p q = rw (composed_identity_left in_p, composed_identity_left whole) at taken.end in
+    let leads : Leads (descends x (composed p q)) p (half_turn n) = rw (composed_identity_left in_p, composed_identity_left whole) at taken.leads in
+    let e = entry (half_turn n) (i + 1) in
+    let f = entry (half_turn n) i in
+    let one = whole.within (i + 1) (omega arith) (omega arith) in
+    let two = whole.within i low (omega arith) in
+    let here = place_of-composed whole in_s i low (omega arith) in
+    let next = place_of-composed whole in_s (i + 1) (omega arith) (omega arith) in
+    let behind : IsBefore (composed (half_turn n) s) e f = omega (arith, here, next, left) in
+    let last : IsBefore (composed p q) e f = rw end at behind in
+    let first = entry-half_turn n i low (omega arith) in
+    let second = entry-half_turn n (i + 1) (omega arith) (omega arith) in
+    let at_e : e ≡ n - i = omega (arith, second) in
+    let at_f : f ≡ n - i + 1 = omega (arith, first) in
+    elim (Leads-before in_p leads e f one two (neighbours_before whole i low high)) [
+      | inl before ↦ let found : IsBefore p f e = before in rw (at_e, at_f) at found
+      | inr may ↦
+          let parts = descends_parts x (composed p q) e f may in
+          absurd (omega (arith, parts, last))
+    ]
+
+-- what was greedy before the pair is greedy before the flip of the other: the half turn goes past it
+pub IsGreedy-half_turn
+    : {n : ℕ} {p q s : List ℕ} (o : List ℕ)
+    → IsOrder n p
+    → IsOrder n q
+    → IsGreedy n o p
+    → Moves n p q (half_turn n) s
+    → IsGreedy n o (flip s)
+IsGreedy-half_turn {n} {p} {q} {s} o in_p in_q greedy moves i low high left =
+    let e : n - (n - i) ≡ i = omega arith in
+    let in_s = IsOrder-moves_second in_q moves in
+    let there = left_descent-half_turn (n - i) in_p in_q moves (omega arith) (omega arith)
+    (left_descent-flip i in_s low high left) in
+    greedy i low high (rw e at there)
+
+-- moves leave no half turn where there was none
+pub Moves-half_turn
+    : {n : ℕ} {p q r s : List ℕ}
+    → IsOrder n q
+    → Moves n p q r s
+    → s ≡ half_turn n
+    → q ≡ half_turn n
+Moves-half_turn in_q done is = is
+Moves-half_turn {n} {p} {q} in_q (move i one rest) is =
+    let high = one.high in
+    let next_q = IsOrder-values_swapped in_q i one.low high in
+    let whole : values_swapped i q ≡ half_turn n = Moves-half_turn next_q rest is in
+    let here = place_of-values_swapped in_q i i one.low high one.low (omega (arith, high)) in
+    let next = place_of-values_swapped in_q i (i + 1) one.low high (omega arith) (omega (arith, high)) in
+    let first : place_of (values_swapped i q) i ≡ place_of q (i + 1) = here ∙ ap (place_of q) ((neighbour_is i i).here refl) in
+    let second : place_of (values_swapped i q) (i + 1) ≡ place_of q i = next ∙ ap (place_of q) ((neighbour_is i (i + 1)).next refl) in
+    let at_first : place_of (values_swapped i q) i ≡ n + 1 - i = ap (λ a. place_of a i) whole ∙ place_of-half_turn n i one.low (omega (arith, high)) in
+    let at_second : place_of (values_swapped i q) (i + 1) ≡ n + 1 - (i + 1) = ap (λ a. place_of a (i + 1)) whole ∙ place_of-half_turn n (i + 1) (omega arith) (omega (arith, high)) in
+    absurd (omega (arith, first, second, at_first, at_second, one.left, high))

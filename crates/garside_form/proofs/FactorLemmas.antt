@@ -10,11 +10,10 @@ use Rattle.braid_word.specs.Equivalence.{EquivalentOn, stay}
 use Rattle.braid_word.proofs.EquivalenceLemmas.{EquivalentOn-trans, EquivalentOn-before, EquivalentOn-after}
 use Rattle.perm_braid.specs.Arrangements.{entry, identity, half_turn, IsOrder}
 use Rattle.perm_braid.specs.SimpleWords.{delta_word, nothing}
-use Rattle.perm_braid.specs.GreedyPairs.{IsGreedy, Moves, done, move, KeepsProduct}
+use Rattle.perm_braid.specs.GreedyPairs.{IsGreedy, KeepsProduct}
 use Rattle.perm_braid.proofs.PlaceLemmas.{entry-reverse, entry-identity, place_of-half_turn}
 use Rattle.perm_braid.proofs.SortingLemmas.{IsStuck, identity-from_stuck}
 use Rattle.perm_braid.proofs.SimpleWordLemmas.{word_exists, word_unique, IsOn-word, identity-from_rising}
-use Rattle.perm_braid.proofs.MoveLemmas.{greedy_not}
 use Rattle.garside_form.specs.NormalForms.{IsFactor, IsNormal, IsProduct, empty, factor}
 use Rattle.garside_form.specs.FactorLists.{EachOrder, AreGreedy, KeepsFactors}
 use Rattle.garside_form.proofs.LevelLemmas.{IsOrder-reverse}
@@ -50,6 +49,15 @@ pub KeepsFactors-cons : (n : ℕ) (p : List ℕ) (ps qs : List (List ℕ)) → K
     → KeepsFactors n (p ∷ ps) (p ∷ qs)
 KeepsFactors-cons n p ps qs keeps _ _ (factor {u = u} {w = v} one first) (factor {u = t} {w = w} two second) =
     rw (word_unique one two) (EquivalentOn-after t (IsOn-word two) (keeps v w first second))
+
+-- behind other simple braids
+pub KeepsFactors-behind
+    : (n : ℕ) (front ps qs : List (List ℕ))
+    → KeepsFactors n ps qs
+    → KeepsFactors n (front ++ ps) (front ++ qs)
+KeepsFactors-behind n [] ps qs keeps = keeps
+KeepsFactors-behind n (p ∷ front) ps qs keeps =
+    KeepsFactors-cons n p (front ++ ps) (front ++ qs) (KeepsFactors-behind n front ps qs keeps)
 
 -- a pair that keeps its product, before other simple braids
 KeepsFactors-front
@@ -89,6 +97,39 @@ product_identity n [] (factor word empty) empty = ap (λ t. t ++ []) (word_uniqu
 product_identity n (p ∷ ps) (factor one first) (factor two second) =
     rw (word_unique one two, product_identity n ps first second) refl
 
+-- ---- Two lists in a row ----
+
+-- The words of two lists in a row.
+pub record IsSplit (n : ℕ) (ps qs : List (List ℕ)) (w : List Letter) : Type 0 where
+  pub u : List Letter
+  pub v : List Letter
+  pub first : IsProduct n ps u
+  pub second : IsProduct n qs v
+  pub is : w ≡ u ++ v
+
+-- a word of two lists in a row is a word of each
+pub product_split : (n : ℕ) (ps qs : List (List ℕ)) (w : List Letter) → IsProduct n (ps ++ qs) w → IsSplit n ps qs w
+product_split n [] qs w product = record { u = []; v = w; first = empty; second = product; is = refl }
+product_split n (p ∷ ps) qs _ (factor {u = a} {w = b} word rest) =
+    let split = product_split n ps qs b rest in
+    record {
+      u = a ++ split.u;
+      v = split.v;
+      first = factor word split.first;
+      second = split.second;
+      is = ap (λ t. a ++ t) split.is ∙ sym (append_assoc a split.u split.v);
+    }
+
+-- words of two lists are one of both in a row
+pub product_append
+    : (n : ℕ) (ps qs : List (List ℕ)) (u v : List Letter)
+    → IsProduct n ps u
+    → IsProduct n qs v
+    → IsProduct n (ps ++ qs) (u ++ v)
+product_append n [] qs _ v empty second = second
+product_append n (p ∷ ps) qs _ v (factor {u = a} {w = b} word rest) second =
+    rw (append_assoc a b v) (factor word (product_append n ps qs b v rest second))
+
 -- ---- Greedy lists ----
 
 -- two greedy lists in a row, if the pair where they meet is greedy
@@ -102,15 +143,6 @@ AreGreedy-append n [] p q ps first pair second = (pair, second)
 AreGreedy-append n (o ∷ []) p q ps first pair second = (first.0, (pair, second))
 AreGreedy-append n (o ∷ r ∷ front) p q ps first pair second =
     (first.0, AreGreedy-append n (r ∷ front) p q ps first.1 pair second)
-
--- moves from a greedy pair are none
-pub Moves-greedy
-    : {n : ℕ} {p q r s : List ℕ}
-    → IsGreedy n p q
-    → Moves n p q r s
-    → (r ≡ p) × (s ≡ q)
-Moves-greedy greedy done = (refl, refl)
-Moves-greedy greedy (move i is rest) = absurd (greedy_not i is greedy)
 
 -- behind the identity only the identity is greedy
 pub greedy_identity

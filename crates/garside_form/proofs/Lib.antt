@@ -6,11 +6,13 @@ pub mod EquivalentLevelLemmas
 pub mod ComposedLemmas
 pub mod UniqueLemmas
 pub mod DeltaLemmas
-pub mod DominoLemmas
 pub mod FactorLemmas
+pub mod FlipLemmas
+pub mod DominoLemmas
 pub mod PassLemmas
-pub mod RawLemmas
-pub mod StripLemmas
+pub mod ReadyLemmas
 pub mod ListLemmas
+pub mod TurnLemmas
+pub mod LetterLemmas
 pub mod NormalLemmas
 pub mod NormalTextLemmas

@@ -1,19 +1,21 @@
 -- The body that makes the normal form of a word, and the refusal of a letter of more strands.
-use Rattle.std.proofs.Common.{ℕ, suc, ◌≡◌, inl, inr, to_z, of_z, w32, ◌+◌, ◌-◌, ◌<◌, ◌≤◌, ◌∙◌, ℤ, pos, negsuc, List, [], ◌∷◌, ◌++◌, length, take, drop, get_or, reverse, refl, sym, ap, subst, arith}
+use Rattle.std.proofs.Common.{ℕ, suc, ◌≡◌, inl, inr, to_z, of_z, w32, ◌+◌, ◌-◌, ◌<◌, ◌≤◌, ◌∙◌, Bool, ℤ, pos, negsuc, List, [], ◌∷◌, ◌++◌, length, take, drop, get_or, refl, sym, ap, subst, arith}
 use Rattle.std.proofs.Math.Seq.{take-suc}
-use Rattle.std.proofs.lemmas.List.{reverse-reverse, drop_more, take-append-drop, length-take-le}
+use Rattle.std.proofs.lemmas.List.{drop_more, take-append-drop, length-take-le}
 use Rattle.std.proofs.lemmas.Bool.{cases_lt}
 use Rattle.std.proofs.lemmas.Int.{to_z-of_z, fits_signed_from_abs}
 use Rattle.braid_word.specs.Words.{Letter, IsOn}
 use Rattle.braid_word.specs.Equivalence.{stay}
 use Rattle.braid_word.proofs.WordLemmas.{on_append}
 use Rattle.braid_word.proofs.EquivalenceLemmas.{on_first, EquivalentOn-trans}
-use Rattle.garside_form.specs.NormalForms.{Form, form, IsFormOf}
-use Rattle.garside_form.specs.FactorLists.{EachOrder, KeepsFactors, BeginsShort, IsReady, IsSpelledBy, IsPowerOf}
+use Rattle.garside_form.specs.NormalForms.{Form, form, delta_power, IsFormOf}
+use Rattle.garside_form.specs.FactorLists.{IsReady, IsSpelledBy, half_turns, is_odd, turned_factors}
 use Rattle.garside_form.specs.FirstOutside.{IsFirstOutside}
-use Rattle.garside_form.proofs.UniqueLemmas.{IsFormOf-equivalent}
+use Rattle.garside_form.proofs.UniqueLemmas.{IsOn-product, IsFormOf-equivalent}
 use Rattle.garside_form.proofs.FactorLemmas.{product_exists}
-use Rattle.garside_form.proofs.StripLemmas.{IsFormOf-stripped}
+use Rattle.garside_form.proofs.FlipLemmas.{IsReady-turned}
+use Rattle.garside_form.proofs.ReadyLemmas.{IsNormal-ready}
+use Rattle.garside_form.proofs.TurnLemmas.{IsTurn, IsTurn-half_turns, factors_pass, half_turns_power}
 
 -- ---- Letters of more strands ----
 
@@ -98,35 +100,30 @@ outside_unique n p q w one two =
 
 -- ---- The normal form ----
 
--- a list that was put back twice
-pub put_twice : (s e l : List (List ℕ)) → s ≡ e ++ reverse l → e ≡ [] → reverse s ≡ l
-put_twice s e l is none = ap reverse (is ∙ ap (λ x. x ++ reverse l) none) ∙ reverse-reverse l
-
--- the power of one list is that of another with its product
-power_after
-    : (n d : ℕ) (ps qs rs : List (List ℕ))
-    → EachOrder n qs
-    → KeepsFactors n ps qs
-    → IsPowerOf n qs d rs
-    → IsPowerOf n ps d rs
-power_after n d ps qs rs orders keeps power u v one two =
-    let (t, is) = product_exists n qs orders in EquivalentOn-trans (keeps u t one is) (power t v is two)
-
--- what the three turns of the body make
+-- what the list and the half turns behind it make
 pub normal_made
-    : (n m d : ℕ) (z : ℤ) (w : List Letter) (ps qs rs : List (List ℕ))
-    → IsSpelledBy n w m ps
-    → EachOrder n ps
-    → IsReady n qs
-    → KeepsFactors n ps qs
-    → IsPowerOf n qs d rs
-    → IsReady n rs
-    → BeginsShort n rs
+    : (n d m : ℕ) (z : ℤ) (w : List Letter) (odd : Bool) (ps qs : List (List ℕ))
+    → IsSpelledBy n w ps d m
+    → IsReady n ps
+    → odd ≡ is_odd (d + m)
+    → qs ≡ turned_factors odd ps
     → (m ≤ d → z ≡ pos (d - m))
     → (d < m → z ≡ negsuc (m - d - 1))
-    → IsFormOf (form n z rs) w
-normal_made n m d z w ps qs rs spelled orders ready keeps power left begins up down =
-    IsFormOf-stripped n m d z w ps rs spelled orders (power_after n d ps qs rs ready.orders keeps power) left begins up down
+    → IsFormOf (form n z qs) w
+normal_made n d m z w odd ps qs spelled ready parity is up down =
+    let turned : IsReady n (turned_factors odd ps) = IsReady-turned n odd ps ready in
+    let (u, one) = product_exists n ps ready.orders in
+    let (v, two) = product_exists n (turned_factors odd ps) turned.orders in
+    let turn : IsTurn n odd (half_turns n d m) =
+    subst (λ o. IsTurn n o (half_turns n d m)) (sym parity) (IsTurn-half_turns n d m) in
+    rw is (record {
+      normal = IsNormal-ready n (turned_factors odd ps) turned;
+      word = delta_power n z ++ v;
+      spelled = record { rest = v; product = two; is = refl };
+      equivalent = EquivalentOn-trans (spelled u one) (EquivalentOn-trans
+          (factors_pass n odd (half_turns n d m) ps turn ready.orders one two)
+          (half_turns_power n d m z v (IsOn-product two) up down));
+    })
 
 -- forms with equal parts are equal
 form_same

@@ -7,13 +7,20 @@
 --   KeepsFactors n ps qs    both lists have equivalent words
 --   EndsCrossed n ps        the last arrangement isn't the identity
 --   BeginsShort n ps        the first arrangement isn't the half turn
---   IsReady n ps            the list is greedy, and doesn't end with the identity
---   IsSpelledBy n w m ps    w is equivalent to m inverse half turns before what the list spells
---   IsPowerOf n ps d qs     the first list spells d half turns before what the second one spells
-use Rattle.std.specs.Prelude.{◌≡◌, ℕ, ◌-◌, Bool, if◌then◌else◌, List, [], ◌∷◌, ◌++◌}
+--   IsReady n ps            the list is greedy, begins with no half turn and ends with no identity
+--   half_turns n d m        the word of m inverse half turns, and then d half turns
+--   IsSpelledBy n w ps d m  w is equivalent to what the list spells, before m inverse half turns and d half turns
+--   is_odd m                whether m is odd
+--   turned_index n odd i    the index i, turned where the number of half turns is odd
+--   turned_factors odd ps   the arrangements, each flipped where that number is odd
+--   letter_factor n i b     the simple braid of a letter
+--   half_turn_if n turned   a half turn where one came out, and else nothing
+--   IsTakenIn n s ps turned ps is a greedy list that begins with no half turn, and has the product of the list s,
+--                           but for the half turn that came out
+use Rattle.std.specs.Prelude.{◌≡◌, ℕ, zero, suc, ◌-◌, Bool, false, not, if◌then◌else◌, List, [], ◌∷◌, ◌++◌, map}
 use Rattle.braid_word.specs.Words.{Letter, inverse}
 use Rattle.braid_word.specs.Equivalence.{EquivalentOn}
-use Rattle.perm_braid.specs.Arrangements.{identity, half_turn, swapped, values_swapped, IsOrder}
+use Rattle.perm_braid.specs.Arrangements.{identity, half_turn, flip, swapped, values_swapped, IsOrder}
 use Rattle.perm_braid.specs.SimpleWords.{delta_word}
 use Rattle.perm_braid.specs.GreedyPairs.{IsGreedy}
 use Rattle.garside_form.specs.NormalForms.{times, IsProduct}
@@ -44,26 +51,49 @@ abbrev pub BeginsShort : ℕ → List (List ℕ) → Type 0
 BeginsShort n [] = Unit {0}
 BeginsShort n (p ∷ ps) = p ≡ half_turn n → ⊥
 
--- A greedy list that doesn't end with the identity.
+-- A greedy list that begins with no half turn and ends with no identity: so none stands in it.
 pub record IsReady (n : ℕ) (ps : List (List ℕ)) : Type 0 where
   pub orders : EachOrder n ps
   pub greedy : AreGreedy n ps
+  pub begins : BeginsShort n ps
   pub ends : EndsCrossed n ps
 
--- The word is m inverse half turns, and then what the list spells.
-abbrev pub IsSpelledBy : ℕ → List Letter → ℕ → List (List ℕ) → Type 0
-IsSpelledBy n w m ps =
-    (u : List Letter) → IsProduct n ps u → EquivalentOn n w (times m (inverse (delta_word n)) ++ u)
+-- ---- Half turns behind a list ----
 
--- The first list spells d half turns, and then what the second one spells.
-abbrev pub IsPowerOf : ℕ → List (List ℕ) → ℕ → List (List ℕ) → Type 0
-IsPowerOf n ps d qs =
-    (u v : List Letter) → IsProduct n ps u → IsProduct n qs v → EquivalentOn n u (times d (delta_word n) ++ v)
+-- The word of m inverse half turns, and then d half turns.
+abbrev pub half_turns : ℕ → ℕ → ℕ → List Letter
+half_turns n d m = times m (inverse (delta_word n)) ++ times d (delta_word n)
 
--- The index of a letter behind half turns: it is turned where their number is odd.
+-- The word is what the list spells, before m inverse half turns and d half turns.
+abbrev pub IsSpelledBy : ℕ → List Letter → List (List ℕ) → ℕ → ℕ → Type 0
+IsSpelledBy n w ps d m = (u : List Letter) → IsProduct n ps u → EquivalentOn n w (u ++ half_turns n d m)
+
+-- Whether the number is odd.
+abbrev pub is_odd : ℕ → Bool
+is_odd zero = false
+is_odd (suc m) = not (is_odd m)
+
+-- The index of a letter before half turns that stood behind them: it is turned where their number is odd.
 abbrev pub turned_index : ℕ → Bool → ℕ → ℕ
 turned_index n odd i = if odd then n - i else i
 
--- The simple braid of a letter: that of the generator, or for an inverse the half turn without it.
+-- The arrangements of a list behind half turns that stood before them: each is flipped where their number is odd.
+abbrev pub turned_factors : Bool → List (List ℕ) → List (List ℕ)
+turned_factors odd ps = if odd then map flip ps else ps
+
+-- The simple braid of a letter: that of the generator, or for an inverse the half turn without the generator in
+-- front.
 abbrev pub letter_factor : ℕ → ℕ → Bool → List ℕ
-letter_factor n i negative = if negative then values_swapped (n - i) (half_turn n) else swapped i (identity n)
+letter_factor n i negative = if negative then values_swapped i (half_turn n) else swapped i (identity n)
+
+-- A half turn where one came out, and else nothing.
+abbrev pub half_turn_if : ℕ → Bool → List (List ℕ)
+half_turn_if n turned = if turned then half_turn n ∷ [] else []
+
+-- What is owed for a list that ends with a simple braid to be taken in: a greedy list that begins with no half
+-- turn, and behind it a half turn where one came out.
+pub record IsTakenIn (n : ℕ) (start ps : List (List ℕ)) (turned : Bool) : Type 0 where
+  pub orders : EachOrder n ps
+  pub greedy : AreGreedy n ps
+  pub begins : BeginsShort n ps
+  pub keeps : KeepsFactors n start (ps ++ half_turn_if n turned)

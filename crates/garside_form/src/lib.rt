@@ -3,9 +3,9 @@
 
 mod error;
 mod form;
+mod letters;
 mod lists;
 mod make;
-mod raw;
 #[cfg(test)]
 mod tests;
 mod writer;

@@ -1,9 +1,9 @@
-ghost use Rattle.std.specs.Prelude.{◌≡◌, ◌+◌, ◌≤◌, ℕ, [], ◌∷◌, ◌++◌, length, reverse, IfOk, OnOk};
-ghost use Rattle.perm_braid.specs.Arrangements.{IsOrder};
-ghost use Rattle.garside_form.specs.FactorLists.{EachOrder, AreGreedy, KeepsFactors, IsReady, IsPowerOf, BeginsShort};
+ghost use Rattle.std.specs.Prelude.{◌≡◌, ℕ, [], ◌∷◌, ◌++◌, map, reverse, IfOk, OnOk, length};
+ghost use Rattle.perm_braid.specs.Arrangements.{IsOrder, flip};
+ghost use Rattle.garside_form.specs.FactorLists.{EachOrder, AreGreedy, BeginsShort, KeepsFactors, IsReady, IsTakenIn, turned_factors};
 
 use perm_braid::{Perm, greedy_pair};
-use std::alloc::{AllocError, Global};
+use std::alloc::AllocError;
 
 // Puts the simple braids of a stack behind the others, the last of the stack first.
 fn put_back(list: &mut Vec<Perm>, stack: &mut Vec<Perm>) -> Result<(), AllocError>
@@ -16,39 +16,61 @@ fn put_back(list: &mut Vec<Perm>, stack: &mut Vec<Perm>) -> Result<(), AllocErro
     Ok(())
 }
 
-// Takes one more simple braid in at the end of a greedy list. `stack` is empty before and after it.
-fn take_in(list: &mut Vec<Perm>, carry: Perm, stack: &mut Vec<Perm>) -> Result<(), AllocError>
+// The same, with each of the stack turned by half a turn.
+fn put_back_turned(list: &mut Vec<Perm>, stack: &mut Vec<Perm>) -> Result<(), AllocError>
+    ensures list { OnOk result (list.new.items ≡ list.old.items ++ map flip (reverse stack.old.items)) }
+    ensures stack { OnOk result (stack.new.items ≡ []) }
+{
+    while let Some(factor) = stack.pop() {
+        let mut turned = factor;
+        turned.flip();
+        list.push(turned)?;
+    }
+    Ok(())
+}
+
+/// Takes one more simple braid in at the end of a list, and answers whether a half turn came out, which then
+/// stands behind the list. `stack` is empty before and after it.
+///
+/// The pass goes from the end to the front, and ends where nothing moves or the factor is the half turn: what
+/// is behind this one stands flipped before it.
+pub(crate) fn take_in(
+    list: &mut Vec<Perm>,
+    carry: Perm,
+    stack: &mut Vec<Perm>,
+) -> Result<bool, AllocError>
     requires empty { stack.old.items ≡ [] }
-    requires orders { EachOrder (length carry) list.old.items }
+    requires ready { IsReady (length carry) list.old.items }
     requires order { IsOrder (length carry) carry }
-    requires greedy { AreGreedy (length carry) list.old.items }
-    ensures orders { OnOk result (EachOrder (length carry) list.new.items) }
-    ensures greedy { OnOk result (AreGreedy (length carry) list.new.items) }
-    ensures keeps { OnOk result (KeepsFactors (length carry) (list.old.items ++ carry ∷ []) list.new.items) }
-    ensures size { OnOk result (length list.new.items ≡ length list.old.items + 1) }
+    ensures taken { IfOk result (λ turned. IsTakenIn (length carry) (list.old.items ++ carry ∷ []) list.new.items turned) }
     ensures empty { OnOk result (stack.new.items ≡ []) }
 {
     let mut carry = carry;
-    while let Some(last) = list.pop() {
+    'passing: while !carry.is_delta() {
+        let Some(last) = list.pop() else {
+            list.push(carry)?;
+            put_back(list, stack)?;
+            return Ok(false);
+        };
         let mut first = last;
         let moved = greedy_pair(&mut first, &mut carry);
         if !moved {
             list.push(first)?;
             list.push(carry)?;
-            return put_back(list, stack);
+            put_back(list, stack)?;
+            return Ok(false);
         }
         stack.push(carry)?;
         carry = first;
     }
-    list.push(carry)?;
-    put_back(list, stack)
+    put_back_turned(list, stack)?;
+    Ok(true)
 }
 
-// Takes identities off the end of a greedy list.
-fn drop_identities(list: &mut Vec<Perm>) -> Result<(), AllocError>
-    ensures ready { (n : ℕ) → EachOrder n list.old.items → AreGreedy n list.old.items → OnOk result (IsReady n list.new.items) }
+/// Takes identities off the end of a greedy list.
+pub(crate) fn drop_identities(list: &mut Vec<Perm>) -> Result<(), AllocError>
+    ensures ready { (n : ℕ) → EachOrder n list.old.items → AreGreedy n list.old.items → BeginsShort n list.old.items → OnOk result (IsReady n list.new.items) }
     ensures keeps { (n : ℕ) → EachOrder n list.old.items → OnOk result (KeepsFactors n list.old.items list.new.items) }
-    ensures size { OnOk result (length list.new.items ≤ length list.old.items) }
 {
     while let Some(last) = list.pop() {
         if !last.is_identity() {
@@ -59,53 +81,20 @@ fn drop_identities(list: &mut Vec<Perm>) -> Result<(), AllocError>
     Ok(())
 }
 
-/// Takes in all simple braids of a stack, the last of it first: a greedy list with their product.
-pub(crate) fn greedy_list(alloc: Global, factors: Vec<Perm>) -> Result<Vec<Perm>, AllocError>
-    requires orders { (n : ℕ) × EachOrder n (reverse factors.items) }
-    ensures ready { (n : ℕ) → EachOrder n (reverse factors.items) → IfOk result (λ r. IsReady n r.items) }
-    ensures keeps { (n : ℕ) → EachOrder n (reverse factors.items) → IfOk result (λ r. KeepsFactors n (reverse factors.items) r.items) }
-    ensures size { IfOk result (λ r. length r.items ≤ length factors.items) }
+// Turns each simple braid by half a turn.
+fn flip_each(list: &mut Vec<Perm>)
+    ensures { list.new.items ≡ map flip list.old.items }
 {
-    let mut factors = factors;
-    let mut list = Vec::new(alloc);
-    let mut stack = Vec::new(alloc);
-    while let Some(carry) = factors.pop() {
-        take_in(&mut list, carry, &mut stack)?;
-        drop_identities(&mut list)?;
+    for k in 0..list.len() {
+        list[k].flip();
     }
-    Ok(list)
 }
 
-// Takes half turns off the end of a list, and counts them.
-fn count_half_turns(list: &mut Vec<Perm>) -> Result<u32, AllocError>
-    requires { length list.old.items ≤ 100000 }
-    ensures power { (n : ℕ) → EachOrder n (reverse list.old.items) → IfOk result (λ d. IsPowerOf n (reverse list.old.items) d (reverse list.new.items)) }
-    ensures ready { (n : ℕ) → IsReady n (reverse list.old.items) → OnOk result (IsReady n (reverse list.new.items)) }
-    ensures begins { (n : ℕ) → EachOrder n (reverse list.old.items) → OnOk result (BeginsShort n (reverse list.new.items)) }
-    ensures few { IfOk result (λ d. d ≤ length list.old.items) }
+/// Turns each simple braid by half a turn where `odd` holds.
+pub(crate) fn turn_factors(list: &mut Vec<Perm>, odd: bool)
+    ensures { list.new.items ≡ turned_factors odd list.old.items }
 {
-    let mut turns = 0;
-    while let Some(last) = list.pop() {
-        if !last.is_delta() {
-            list.push(last)?;
-            return Ok(turns);
-        }
-        turns += 1;
+    if odd {
+        flip_each(list);
     }
-    Ok(turns)
-}
-
-/// Takes the half turns off the front of a list, and answers how many they are.
-pub(crate) fn strip_half_turns(alloc: Global, list: &mut Vec<Perm>) -> Result<u32, AllocError>
-    requires { length list.old.items ≤ 100000 }
-    ensures power { (n : ℕ) → EachOrder n list.old.items → IfOk result (λ d. IsPowerOf n list.old.items d list.new.items) }
-    ensures ready { (n : ℕ) → IsReady n list.old.items → OnOk result (IsReady n list.new.items) }
-    ensures begins { (n : ℕ) → EachOrder n list.old.items → OnOk result (BeginsShort n list.new.items) }
-    ensures few { IfOk result (λ d. d ≤ 100000) }
-{
-    let mut stack = Vec::new(alloc);
-    put_back(&mut stack, list)?;
-    let turns = count_half_turns(&mut stack)?;
-    put_back(list, &mut stack)?;
-    Ok(turns)
 }

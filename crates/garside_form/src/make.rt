@@ -6,8 +6,8 @@ ghost use Rattle.garside_form.specs.declared.error.NormalErr.TheVariants.{Strand
 
 use crate::error::NormalErr;
 use crate::form::NormalForm;
-use crate::lists::{greedy_list, strip_half_turns};
-use crate::raw::letter_factors;
+use crate::letters::take_letters;
+use crate::lists::turn_factors;
 use braid_word::Letter;
 use std::alloc::{AllocError, Global};
 
@@ -48,11 +48,10 @@ fn normal_on(alloc: Global, word: &[Letter], n: u32) -> Result<NormalForm, Alloc
     ensures strands { IfOk result (λ f. f.strands ≡ n) }
     ensures form { IfOk result (λ f. IsFormOf f word.now) }
 {
-    let mut raw = Vec::new(alloc);
-    let inverses = letter_factors(alloc, word, n, &mut raw)?;
-    let mut factors = greedy_list(alloc, raw)?;
-    let turns = strip_half_turns(alloc, &mut factors)?;
-    Ok(NormalForm::of(n, difference(turns, inverses), factors))
+    let mut factors = Vec::new(alloc);
+    let turns = take_letters(alloc, word, n, &mut factors)?;
+    turn_factors(&mut factors, turns.odd);
+    Ok(NormalForm::of(n, difference(turns.made, turns.inverse), factors))
 }
 
 /// The normal form of a word on n strands.

@@ -6,4 +6,4 @@ pub mod SimpleWordLemmas
 pub mod MoveLemmas
 mod EntryLemmas
 mod ScanLemmas
-mod GreedyLemmas
+mod PassingLemmas

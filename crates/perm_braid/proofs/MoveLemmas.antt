@@ -1,15 +1,15 @@
 -- Moves between two simple braids keep orders and the product.
 --
 -- A move takes the letter s_i from the front of the second word and puts it at the end of the first
--- (`KeepsProduct-moves`). A move at i leaves what can be moved below i - 1 as it was.
-use Rattle.std.proofs.Common.{ℕ, inl, ◌+◌, ◌≤◌, List, [], ◌∷◌, ◌++◌, append_assoc, refl, arith}
+-- (`KeepsProduct-moves`).
+use Rattle.std.proofs.Common.{ℕ, List, [], ◌∷◌, ◌++◌, append_assoc}
 use Rattle.braid_word.specs.Equivalence.{EquivalentOn, stay}
 use Rattle.braid_word.proofs.EquivalenceLemmas.{EquivalentOn-sym, EquivalentOn-trans, EquivalentOn-before, EquivalentOn-after}
 use Rattle.braid_word.proofs.WordLemmas.{on_append}
-use Rattle.perm_braid.specs.Arrangements.{swapped, values_swapped, IsOrder, IsLeftDescent}
+use Rattle.perm_braid.specs.Arrangements.{IsOrder}
 use Rattle.perm_braid.specs.SimpleWords.{generator}
-use Rattle.perm_braid.specs.GreedyPairs.{IsGreedyBetween, IsGreedy, IsMove, Moves, done, move, KeepsProduct}
-use Rattle.perm_braid.proofs.SwapLemmas.{entry-swapped_other, place_of-values_swapped, neighbour_is, IsOrder-swapped, IsOrder-values_swapped}
+use Rattle.perm_braid.specs.GreedyPairs.{IsGreedy, IsMove, Moves, done, move, KeepsProduct}
+use Rattle.perm_braid.proofs.SwapLemmas.{IsOrder-swapped, IsOrder-values_swapped}
 use Rattle.perm_braid.proofs.SimpleWordLemmas.{word_exists, word_unique, IsOn-word, IsWordOf-front, IsWordOf-end}
 
 -- moves keep the first an order
@@ -21,15 +21,6 @@ IsOrder-moves_first order (move i is rest) = IsOrder-moves_first (IsOrder-swappe
 pub IsOrder-moves_second : {n : ℕ} {p q r s : List ℕ} → IsOrder n q → Moves n p q r s → IsOrder n s
 IsOrder-moves_second order done = order
 IsOrder-moves_second order (move i is rest) = IsOrder-moves_second (IsOrder-values_swapped order i is.low is.high) rest
-
--- one move more
-pub Moves-more
-    : {n : ℕ} {p q r s : List ℕ} (i : ℕ)
-    → Moves n p q r s
-    → IsMove n r s i
-    → Moves n p q (swapped i r) (values_swapped i s)
-Moves-more i done is = move i is done
-Moves-more i (move j first rest) is = move j first (Moves-more i rest is)
 
 -- where there is a move, the pair isn't greedy
 pub greedy_not : {n : ℕ} {p q : List ℕ} (i : ℕ) → IsMove n p q i → IsGreedy n p q → ⊥
@@ -57,26 +48,3 @@ KeepsProduct-moves {n} {p} {q} one two (move i is rest) u v x y u_is v_is x_is y
     EquivalentOn-before w (IsOn-word w_is) (EquivalentOn-sym end) in
     EquivalentOn-trans opened (EquivalentOn-trans closed
     (KeepsProduct-moves next_one next_two rest t w x y t_is w_is x_is y_is))
-
--- ---- What stays where a move was made ----
-
--- a move at i leaves what is below the place before it
-pub IsGreedyBetween-moved
-    : {n : ℕ} {p q : List ℕ} (i m : ℕ)
-    → IsOrder n q
-    → IsMove n p q i
-    → m + 1 ≤ i
-    → IsGreedyBetween 1 m p q
-    → IsGreedyBetween 1 m (swapped i p) (values_swapped i q)
-IsGreedyBetween-moved {n} {p} {q} i m order is far greedy j low less left =
-    let here = place_of-values_swapped order i j is.low is.high low (omega (arith, is.high)) in
-    let next = place_of-values_swapped order i (j + 1) is.low is.high (omega arith) (omega (arith, is.high)) in
-    let same_here = (neighbour_is i j).low (omega arith) in
-    let same_next = (neighbour_is i (j + 1)).low (omega arith) in
-    let old : IsLeftDescent q j = rw (here, next, same_here, same_next) at left in
-    rw (
-      entry-swapped_other i (i + 1) j p refl (inl (omega arith)),
-      entry-swapped_other i (i + 1) (j + 1) p
-          refl (inl (omega arith)),
-    )
-    (greedy j low less old)

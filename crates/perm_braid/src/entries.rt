@@ -3,7 +3,8 @@
 ghost use Rattle.std.specs.Prelude.{◌≡◌, ◌+◌, ◌-◌, ◌<◌, ◌≤◌, ◌↔◌, length, IsTrue, IsOk, IfOk};
 ghost use Rattle.std.specs.List.{swap};
 ghost use Rattle.smallvec.specs.SmallVec.{small_vec_len};
-ghost use Rattle.perm_braid.specs.Arrangements.{entry, flip, identity, half_turn, IsOrder, IsRightDescent};
+ghost use Rattle.perm_braid.specs.Arrangements.{entry, flip, identity, half_turn, IsOrder, places_of};
+ghost use Rattle.perm_braid.specs.GreedyPairs.{CanPass};
 
 use smallvec::SmallVec;
 use std::alloc::{AllocError, Global};
@@ -41,13 +42,13 @@ pub(crate) fn entry_at(numbers: &[u8], place: u32) -> u8
     numbers[place as usize - 1]
 }
 
-// Whether the places fall after this one, and the entries don't.
-pub(crate) fn is_move(entries: &[u8], places: &[u8], i: u32) -> bool
+// Whether the places fall after this one, and the entries rise.
+pub(crate) fn can_pass(entries: &[u8], places: &[u8], i: u32) -> bool
     requires low { 1 ≤ i }
     requires entries { i < length entries.now }
     requires places { i < length places.now }
     requires short { length entries.now ≤ 64 }
-    ensures { IsTrue result ↔ (IsRightDescent places.now i × (IsRightDescent entries.now i → ⊥)) }
+    ensures { IsTrue result ↔ CanPass entries.now places.now i (i + 1) }
 {
     entry_at(places, i + 1) < entry_at(places, i)
         && entry_at(entries, i) <= entry_at(entries, i + 1)
@@ -108,4 +109,26 @@ fn flip(numbers: &mut [u8])
     for k in 0..numbers.len() {
         numbers[k] = above - numbers[k];
     }
+}
+
+// Writes the places of the numbers.
+fn write_places(places: &mut [u8], numbers: &[u8])
+    requires equal { length places.old ≡ length numbers.now }
+    requires short { length numbers.now ≤ 64 }
+    requires order { IsOrder (length numbers.now) numbers.now }
+    ensures { places.new ≡ places_of numbers.now }
+{
+    for k in 0..numbers.len() {
+        places[usize::from(numbers[k]) - 1] = k as u8 + 1;
+    }
+}
+
+// The same in vectors.
+pub(crate) fn place(places: &mut SmallVec<u8, 16>, numbers: &SmallVec<u8, 16>)
+    requires equal { length places.old.items ≡ length numbers.now.items }
+    requires short { length numbers.now.items ≤ 64 }
+    requires order { IsOrder (length numbers.now.items) numbers.now.items }
+    ensures { places.new.items ≡ places_of numbers.now.items }
+{
+    write_places(places.as_mut_slice(), numbers.as_slice());
 }

@@ -2,12 +2,11 @@
 #![tactic(auto)]
 
 mod entries;
-mod greedy;
 mod laws;
+mod passing;
 mod perm;
 #[cfg(test)]
 mod tests;
 
-pub use greedy::greedy_pair;
 pub use laws::law_word;
-pub use perm::Perm;
+pub use perm::{Perm, greedy_pair};

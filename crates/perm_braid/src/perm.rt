@@ -1,8 +1,9 @@
-ghost use Rattle.std.specs.Prelude.{◌≡◌, ◌+◌, ◌<◌, ◌≤◌, ◌↔◌, length, IsTrue, IsOk, IfOk, IfSome, IfNone};
+ghost use Rattle.std.specs.Prelude.{◌≡◌, ◌+◌, ◌<◌, ◌≤◌, ◌↔◌, length, IsTrue, IsOk, IfOk};
 ghost use Rattle.perm_braid.specs.Arrangements.{entry, swapped, values_swapped, flip, identity, half_turn, IsRightDescent, IsLeftDescent, IsArrangement};
-ghost use Rattle.perm_braid.specs.GreedyPairs.{IsGreedyBetween, IsMove};
+ghost use Rattle.perm_braid.specs.GreedyPairs.{IsGreedy, Moves, KeepsProduct};
 
-use crate::entries::{entry_at, exchange, falling, is_falling, is_move, is_rising, rising, turn};
+use crate::entries::{entry_at, exchange, falling, is_falling, is_rising, place, rising, turn};
+use crate::passing::settle;
 use smallvec::SmallVec;
 use std::alloc::{AllocError, Global};
 use std::marker::Model;
@@ -162,23 +163,23 @@ impl Perm {
         turn(&mut self.entries);
         turn(&mut self.places);
     }
+}
 
-    // The first place from this one on at which a left descent of the other is no right descent of this.
-    pub(crate) fn first_move(&self, other: &Perm, from: u32) -> Option<u32>
-        requires low { 1 ≤ from }
-        requires equal { length self.now ≡ length other.now }
-        ensures first { IsArrangement self.now }
-        ensures second { IsArrangement other.now }
-        ensures found { IfSome result (λ i. IsMove (length self.now) self.now other.now i × (from ≤ i) × IsGreedyBetween from i self.now other.now) }
-        ensures none { IfNone result (IsGreedyBetween from (length self.now) self.now other.now) }
-    {
-        let entries = self.entries.as_slice();
-        let places = other.places.as_slice();
-        for i in from..self.strands() {
-            if is_move(entries, places, i) {
-                return Some(i);
-            }
-        }
-        None
-    }
+/// Moves left descents of `q` that are no right descents of `p` from `q` to `p`, until none is left, and
+/// answers whether it moved one.
+///
+/// The order of the moves is not said. It takes no memory. After Epstein and others, Word Processing in
+/// Groups, chapter 9.
+pub fn greedy_pair(p: &mut Perm, q: &mut Perm) -> bool
+    requires equal { length p.old ≡ length q.old }
+    ensures moves { Moves (length p.old) p.old q.old p.new q.new }
+    ensures product { KeepsProduct (length p.old) p.old q.old p.new q.new }
+    ensures greedy { IsGreedy (length p.old) p.new q.new }
+    ensures moved { IsTrue result ↔ (IsGreedy (length p.old) p.old q.old → ⊥) }
+{
+    // A move exchanges neighbours among the entries of `p` and among the places of `q`.
+    let moved = settle(&mut p.entries, &mut q.places);
+    place(&mut p.places, &p.entries);
+    place(&mut q.entries, &q.places);
+    moved
 }

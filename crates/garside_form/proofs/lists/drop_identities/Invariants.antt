@@ -1,5 +1,5 @@
-use Rattle.std.proofs.Common.{ℕ, ◌≤◌, length}
-use Rattle.garside_form.specs.FactorLists.{EachOrder, AreGreedy, KeepsFactors}
+use Rattle.std.proofs.Common.{ℕ, length}
+use Rattle.garside_form.specs.FactorLists.{EachOrder, AreGreedy, BeginsShort, KeepsFactors}
 use Rattle.garside_form.proofs.lists.drop_identities.Given as goal
 
 -- Only identities were left out.
@@ -7,8 +7,8 @@ abbrev pub invariant-loop-last : goal.invariant-loop-last
 invariant-loop-last l = record {
   orders : (n : ℕ) → EachOrder n l.fn.list.items → EachOrder n l.list.items;
   greedy : (n : ℕ) → AreGreedy n l.fn.list.items → AreGreedy n l.list.items;
+  begins : (n : ℕ) → BeginsShort n l.fn.list.items → BeginsShort n l.list.items;
   keeps : (n : ℕ) → EachOrder n l.fn.list.items → KeepsFactors n l.fn.list.items l.list.items;
-  size : length l.list.items ≤ length l.fn.list.items;
 }
 
 -- The list gets shorter.

@@ -1,5 +1,5 @@
-use Rattle.garside_form.proofs.RawLemmas.{half_turn_fits, identity_fits}
-use Rattle.garside_form.proofs.raw.letter_factor.Goals as goal
+use Rattle.garside_form.proofs.LetterLemmas.{half_turn_fits, identity_fits}
+use Rattle.garside_form.proofs.letters.letter_factor.Goals as goal
 
 pub before-requires-clause-high : goal.before-requires-clause-high
 before-requires-clause-high c = (half_turn_fits _ c.args.i _ c.in_ok-factor.ensures.value c.requires.least c.requires.below).0
