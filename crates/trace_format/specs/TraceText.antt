@@ -1,11 +1,14 @@
 -- The text of a trace file, version 1.
 --
 -- A trace claims how the braids of two words compare, by which steps that was found, and gives a word by
--- which it can be seen. Each line ends with LF (byte 10); fields are parted by one space.
+-- which it can be seen. Or it claims so of the braids of two terms, and then has their texts in place of the
+-- words. Each line ends with LF (byte 10); fields are parted by one space.
 -- Source: this project's own.
 --
---   Trace           what a trace file says
---   trace_text t    its text
+--   Trace                what a trace file of two words says
+--   trace_text t         its text
+--   TermTrace            what a trace file of two terms says
+--   term_trace_text t    its text
 use Rattle.std.specs.Prelude.{ℕ, List, [], ◌∷◌, ◌++◌, codes, decimal}
 use Rattle.std.specs.List.{flat_map}
 use Rattle.wb_base.specs.Lines.{line}
@@ -20,6 +23,14 @@ use Rattle.trace_format.specs.declared.verdict.Verdict.TheVariants.{Less, Equal,
 pub record Trace : Type 0 where
   pub left : List Letter
   pub right : List Letter
+  pub steps : List StepLine
+  pub verdict : Verdict
+  pub witness : List Letter
+
+-- The texts of two terms, and the same of the braids of these terms.
+pub record TermTrace : Type 0 where
+  pub left : List ℕ
+  pub right : List ℕ
   pub steps : List StepLine
   pub verdict : Verdict
   pub witness : List Letter
@@ -58,11 +69,20 @@ abbrev pub head_text : List Letter → List Letter → List ℕ
 head_text left right =
     line (codes "braid-trace 1") ++ line (codes "left" ++ word_field left) ++ line (codes "right" ++ word_field right)
 
+-- The same for the texts of two terms.
+abbrev pub term_head_text : List ℕ → List ℕ → List ℕ
+term_head_text left right =
+    line (codes "braid-trace 1") ++ line (codes "left-term " ++ left) ++ line (codes "right-term " ++ right)
+
 -- The lines behind the steps.
 abbrev pub tail_text : Verdict → List Letter → List ℕ
 tail_text verdict witness =
     line (codes "verdict " ++ verdict_word verdict) ++ line (codes "witness" ++ word_field witness) ++ line (codes "end")
 
--- The text of a trace file.
+-- The text of a trace file of two words.
 unfoldable pub trace_text : Trace → List ℕ
 trace_text t = head_text t.left t.right ++ flat_map step_line t.steps ++ tail_text t.verdict t.witness
+
+-- The text of a trace file of two terms.
+unfoldable pub term_trace_text : TermTrace → List ℕ
+term_trace_text t = term_head_text t.left t.right ++ flat_map step_line t.steps ++ tail_text t.verdict t.witness

@@ -9,5 +9,5 @@ mod trace;
 mod verdict;
 
 pub use line::{Kind, Line, LineErr, StepLine, kind_of, read_line};
-pub use trace::put_trace;
+pub use trace::{put_term_trace, put_trace};
 pub use verdict::{Verdict, verdict_of};
