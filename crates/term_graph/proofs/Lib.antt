@@ -1,0 +1,10 @@
+pub mod AskLemmas
+pub mod GraphLemmas
+pub mod EntryLemmas
+pub mod NameListLemmas
+pub mod StrictLemmas
+pub mod FaultLemmas
+pub mod FileLemmas
+pub mod RequestLemmas
+pub mod ReadingLemmas
+pub mod LineReadLemmas

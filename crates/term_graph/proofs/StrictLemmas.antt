@@ -1,0 +1,136 @@
+-- The strict text of a term is a strict text of it, and of no other term.
+--
+-- The tokens of the text are those of the term, by induction on the term, with anything behind the text that
+-- doesn't go on with a run (`lex-strict_text`). That the text has no other term is the law of the grammar
+-- (`IsTermText-strict_text`, `strict_text-inj`).
+use Rattle.std.proofs.Common.{◌≡◌, ℕ, ◌+◌, true, false, List, [], ◌∷◌, ◌++◌, take, refl, sym, ap, ◌∙◌, subst, append_assoc, append-nil}
+use Rattle.std.specs.List.{prefix_len}
+use Rattle.wb_base.specs.Names.{is_name_byte}
+use Rattle.ld_term.specs.Terms.{Term, variable, multiply}
+use Rattle.ld_term.specs.Written.{Written, leaf, named, times}
+use Rattle.ld_term.specs.Tokens.{Token, open_bracket, close_bracket, star, variable as variable_token, byte_token, tokens_of, lex, tokens_from, run_token}
+use Rattle.ld_term.specs.Grammar.{atom_tokens, IsTermText, atom}
+use Rattle.ld_term.proofs.ReadingLemmas.{text-unique}
+use Rattle.term_graph.specs.StrictTexts.{as_written, strict_text}
+
+-- ---- Tokens ----
+
+-- No run goes on here.
+abbrev EndsRun : List ℕ → Type 0
+EndsRun [] = Unit {0}
+EndsRun (byte ∷ bytes) = is_name_byte byte ≡ false
+
+-- The tokens of these bytes in a strict reading, wherever the bytes stand.
+abbrev HasTokens : List ℕ → List Token → Type 0
+HasTokens bytes tokens = (place : ℕ) → tokens_of (lex true false place bytes) ≡ tokens
+
+-- where no run goes on, nothing is known of the run before
+lex-ends
+    : (place : ℕ) (bytes : List ℕ)
+    → EndsRun bytes
+    → lex true true place bytes ≡ lex true false place bytes
+unfolding lex
+lex-ends place [] ends = refl
+lex-ends place (byte ∷ bytes) ends = rw ends refl
+
+-- one byte is in the run of an x
+prefix-x : (bytes : List ℕ) → EndsRun bytes → prefix_len is_name_byte (120 ∷ bytes) ≡ 1
+prefix-x [] ends = refl
+prefix-x (byte ∷ bytes) ends = rw ends refl
+
+-- an x is the variable
+HasTokens-x
+    : (bytes : List ℕ) (tokens : List Token)
+    → EndsRun bytes
+    → HasTokens bytes tokens
+    → HasTokens (120 ∷ bytes) (variable_token ∷ tokens)
+unfolding lex
+HasTokens-x bytes tokens ends behind place =
+    let run : run_token true (take (prefix_len is_name_byte (120 ∷ bytes)) (120 ∷ bytes)) place ≡ variable_token =
+    rw (prefix-x bytes ends) refl in
+    let more : tokens_of (lex true true (place + 1) bytes) ≡ tokens =
+    ap tokens_of (lex-ends (place + 1) bytes ends) ∙ behind (place + 1) in
+    λ i. run i ∷ more i
+
+-- a bracket or a star is a token
+HasTokens-byte
+    : (byte : ℕ) (bytes : List ℕ) (tokens : List Token)
+    → is_name_byte byte ≡ false
+    → HasTokens bytes tokens
+    → HasTokens (byte ∷ bytes) (byte_token byte ∷ tokens)
+unfolding lex
+HasTokens-byte byte bytes tokens other behind place =
+    rw other (ap (λ z. byte_token byte ∷ z) (behind (place + 1)))
+
+-- nothing has no tokens
+HasTokens-nil : HasTokens [] []
+unfolding lex
+HasTokens-nil place = refl
+
+-- a product in brackets, with anything behind it
+bracketed
+    : {X : Type 0} (first middle last : X) (l r rest : List X)
+    → (first ∷ (l ++ (middle ∷ (r ++ (last ∷ []))))) ++ rest ≡ first ∷ (l ++ (middle ∷ (r ++ (last ∷ rest))))
+bracketed first middle last l r rest =
+    ap (λ z. first ∷ z)
+    (append_assoc l (middle ∷ (r ++ (last ∷ []))) rest ∙ ap (λ z. l ++ (middle ∷ z)) (append_assoc r (last ∷ []) rest))
+
+-- the tokens of a strict text, with anything behind it
+lex-strict_text
+    : (t : Term) (bytes : List ℕ) (tokens : List Token)
+    → EndsRun bytes
+    → HasTokens bytes tokens
+    → HasTokens (strict_text t ++ bytes) (atom_tokens (as_written t) ++ tokens)
+lex-strict_text variable bytes tokens ends behind place = HasTokens-x bytes tokens ends behind place
+lex-strict_text (multiply t u) bytes tokens ends behind place =
+    let last = HasTokens-byte 41 bytes tokens refl behind in
+    let right = lex-strict_text u (41 ∷ bytes) (close_bracket ∷ tokens) refl last in
+    let middle = HasTokens-byte 42 _ _ refl right in
+    let left = lex-strict_text t (42 ∷ (strict_text u ++ (41 ∷ bytes))) _ refl middle in
+    let whole = HasTokens-byte 40 _ _ refl left in
+    ap (λ z. tokens_of (lex true false place z)) (bracketed 40 42 41 (strict_text t) (strict_text u) bytes)
+    ∙ whole place
+    ∙ sym (bracketed open_bracket star close_bracket (atom_tokens (as_written t)) (atom_tokens (as_written u)) tokens)
+
+-- ---- Texts ----
+
+-- the strict text is a strict text of the term
+pub IsTermText-strict_text
+    : (t : Term)
+    → IsTermText true (tokens_of (tokens_from true 0 (strict_text t))) (as_written t)
+IsTermText-strict_text t =
+    atom (ap (λ z. tokens_of (lex true false 1 z)) (sym (append-nil (strict_text t)))
+    ∙ lex-strict_text t [] [] tt HasTokens-nil 1
+    ∙ append-nil (atom_tokens (as_written t)))
+
+-- the left and the right part of a product that is written
+abbrev left_part : Written → Written
+left_part leaf = leaf
+left_part (named name place) = leaf
+left_part (times a b) = a
+
+abbrev right_part : Written → Written
+right_part leaf = leaf
+right_part (named name place) = leaf
+right_part (times a b) = b
+
+abbrev IsProduct : Written → Type 0
+IsProduct leaf = ⊥
+IsProduct (named name place) = ⊥
+IsProduct (times a b) = Unit {0}
+
+-- terms that are written alike are one
+as_written-inj : (t u : Term) → as_written t ≡ as_written u → t ≡ u
+as_written-inj variable variable is = refl
+as_written-inj variable (multiply c d) is = absurd (subst IsProduct (sym is) tt)
+as_written-inj (multiply a b) variable is = absurd (subst IsProduct is tt)
+as_written-inj (multiply a b) (multiply c d) is =
+    λ i. multiply (as_written-inj a c (ap left_part is) i) (as_written-inj b d (ap right_part is) i)
+
+-- terms with one strict text are one
+pub strict_text-inj : (t u : Term) → strict_text t ≡ strict_text u → t ≡ u
+strict_text-inj t u is =
+    let first = IsTermText-strict_text t in
+    let second =
+    subst (λ z. IsTermText true (tokens_of (tokens_from true 0 z)) (as_written u)) (sym is) (IsTermText-strict_text u) in
+    as_written-inj t u (text-unique true _ (as_written t) (as_written u) first second)

@@ -1,0 +1,9 @@
+pub mod TermLists
+pub mod TermCodes
+pub mod Asks
+pub mod NameLists
+pub mod StrictTexts
+pub mod Nodes
+pub mod Requests
+pub mod TermFiles
+pub mod Readings
