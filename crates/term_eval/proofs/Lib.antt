@@ -1,0 +1,2 @@
+pub mod BraidLemmas
+pub mod PlacedLemmas
