@@ -6,3 +6,6 @@ pub mod CommandLemmas
 pub mod ReplyLemmas
 pub mod LawLemmas
 pub mod AloneLemmas
+pub mod TalkLemmas
+pub mod ConversationLemmas
+pub mod ServingLemmas

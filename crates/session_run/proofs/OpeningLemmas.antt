@@ -1,7 +1,7 @@
 -- What an opening meets.
-use Rattle.std.proofs.Common.{◌≡◌, ℕ, ◌+◌, ◌<◌, ◌≤◌, List, [], ◌∷◌, length, is_some, false, refl, arith, length-append}
+use Rattle.std.proofs.Common.{◌≡◌, ℕ, ◌+◌, ◌<◌, ◌≤◌, List, length, is_some, false, refl, arith}
 use Rattle.std.proofs.lemmas.Bool.{lt-ltb, le-ltb}
-use Rattle.braid_word.specs.Words.{Letter, inverse, quotient}
+use Rattle.braid_word.specs.Words.{Letter, quotient}
 use Rattle.braid_word.specs.declared.TheConstants.{MAX_LETTERS}
 use Rattle.session_run.specs.declared.TheConstants.{MAX_JOBS}
 use Rattle.braid_word.proofs.WordLemmas.{length-quotient}

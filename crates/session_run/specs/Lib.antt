@@ -4,3 +4,5 @@ pub mod Replies
 pub mod ReplyText
 pub mod Keeping
 pub mod OwnLines
+pub mod Conversation
+pub mod Serving
