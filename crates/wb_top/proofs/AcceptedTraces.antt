@@ -24,11 +24,12 @@ use Rattle.handle_reduce.proofs.RunLemmas as runs
 use Rattle.handle_reduce.proofs.RunEquivalence.{EquivalentOn-run_after}
 use Rattle.trace_format.specs.declared.verdict.Verdict.{Verdict}
 use Rattle.trace_format.specs.Verdicts.{verdict_of}
-use Rattle.trace_format.specs.TraceText.{Trace, trace_text, handle_step}
+use Rattle.trace_format.specs.TraceText.{trace_text, handle_step}
 use Rattle.trace_format.specs.TraceLines.{IsStepLine, IsTrace}
 use Rattle.trace_check.specs.Accepted.{IsSteps, IsAccepted}
 use Rattle.trace_check.proofs.AcceptedLemmas.{IsStep-reduct, IsSteps-append}
 use Rattle.trace_check.proofs.VerdictLemmas.{Shows-verdict_of}
+use Rattle.wb_top.specs.Reductions.{trace_of}
 
 -- ---- The steps of a run ----
 
@@ -139,16 +140,6 @@ length-reached w handles limit t short = elim (runs.length-present w handles lim
 ]
 
 -- ---- The trace of a run ----
-
--- the trace of a run, with this verdict
-abbrev pub trace_of : List Letter → List Letter → RunState → Verdict → Trace
-trace_of u v run verdict = record {
-  left = u;
-  right = v;
-  steps = map handle_step run.steps;
-  verdict = verdict;
-  witness = run.present;
-}
 
 -- its words can be read and its places are places
 IsTrace-run_after

@@ -1,10 +1,11 @@
 -- Laws of what the program answers.
 --
--- The program answers something to any words and any input (`out-total`): a run is over after as many
--- turns as it may reduce handles, and its sign isn't mixed.
-use Rattle.std.proofs.Common.{◌≡◌, ◌≢◌, ℕ, Bool, true, false, not, cond, ltb, ◌&&◌, ◌+◌, ◌<◌, ◌≤◌, List, [], ◌∷◌, ◌++◌, length, drop, Option, Some, None, Result, Ok, Err, IfSome, codes, refl, ap, sym, subst, ◌∙◌, zero-add, arith}
+-- A run is over after as many turns as it may reduce handles, and its sign isn't mixed, so `compare` has an
+-- answer to any input (`compared_words-total`). The program has no two answers to any words and any input
+-- (`IsAnswer-one`).
+use Rattle.std.proofs.Common.{◌≡◌, ◌≢◌, ◌⊎◌, inr, ℕ, Bool, true, false, not, ltb, ◌+◌, ◌<◌, ◌≤◌, List, [], ◌∷◌, ◌++◌, length, drop, Option, Some, None, Result, Ok, Err, IfSome, codes, refl, ap, sym, subst, ◌∙◌, zero-add, arith}
 use Rattle.std.specs.Option.{option_map}
-use Rattle.std.proofs.lemmas.Bool.{lt-ltb, le-ltb, ltb-false, and_parts, and_from}
+use Rattle.std.proofs.lemmas.Bool.{le-ltb, ltb-false, and_parts, and_from}
 use Rattle.wb_base.specs.Lines.{line}
 use Rattle.free_word.specs.FreeWords.{Gen, gen}
 use Rattle.free_word.specs.FreeText.{free_text}
@@ -23,37 +24,44 @@ use Rattle.handle_reduce.proofs.RunLemmas.{run_after-ended, run_after-long}
 use Rattle.handle_reduce.proofs.SignOfReduced.{run_after-Mixed}
 use Rattle.wb_top.specs.declared.TheConstants.{MAX_INPUT}
 use Rattle.wb_top.specs.declared.command.Command.{Command}
-use Rattle.wb_top.specs.declared.command.Command.TheVariants.{Compare, Check, Act, Laver, Row, Bench}
+use Rattle.wb_top.specs.declared.command.Command.TheVariants.{Compare, Terms, Check, Normal, Same, Act, Eval, Laver, Row, Session, Bench}
 use Rattle.wb_top.specs.declared.input.Fault.{Fault}
-use Rattle.wb_top.specs.Inputs.{two_words}
-use Rattle.braid_word.specs.declared.TheConstants.{MAX_INDEX}
+use Rattle.wb_top.specs.Inputs.{one_word, two_words}
+use Rattle.wb_top.proofs.CommandLemmas.{command_of-IsBounded}
+use Rattle.garside_form.specs.NormalText.{normal_text}
+use Rattle.garside_form.proofs.NormalLemmas.{form_only}
 use Rattle.trace_format.specs.Verdicts.{verdict_of}
-use Rattle.wb_top.specs.Commands.{command_of, reads_input}
-use Rattle.wb_top.specs.Answers.{Answer, answer, limit_met, ended, compared, compared_words, images_fit, acted, out_of_short, out_of, out_of_words, out, Told, IsTold}
+use Rattle.wb_top.specs.Commands.{command_of, reads_input, reads_first, IsBounded}
+use Rattle.wb_top.specs.Answer.{Answer, answer, usage, limit_met, Told, IsTold, told_nothing, told_answer}
+use Rattle.wb_top.specs.Reductions.{ended, run_answer}
+use Rattle.wb_top.specs.TermAnswers.{file_refused, evaluated, IsEvaluated, eval_refused, eval_read, AreCompared, terms_refused, terms_read}
+use Rattle.wb_base.specs.Lines.{lines_of}
+use Rattle.term_graph.specs.TermLists.{term_at}
+use Rattle.term_graph.proofs.FileLemmas.{IsFileRefusal-unique, IsFileRefusal-file, IsTermFile-terms}
+use Rattle.trace_format.specs.declared.verdict.Verdict.{Verdict}
+use Rattle.wb_top.specs.Answers.{compared_words, IsNormalOf, IsDecided, are_same, are_different, IsSameOf, images_fit, acted, AnswersShort, Answers, past_limit, in_limit, AnswersWords, IsAnswer}
 
 -- ---- Runs ----
 
 -- the run of a reducer after all its turns, of the quotient of u and v
 pub run-all
-    : (w u v left right : List Letter) (handles limit : ℕ) (r : LimitedRun)
-    → w ≡ quotient left right
-    → left ≡ u
-    → right ≡ v
+    : (w u v : List Letter) (handles limit : ℕ) (r : LimitedRun)
+    → w ≡ quotient u v
     → IsRunAfter w handles limit (0 + handles) r
     → r.run ≡ run_after (quotient u v) handles limit handles
-run-all w u v left right handles limit r word first second is =
-    let same : w ≡ quotient u v = word ∙ rw (first, second) refl in
+run-all w u v handles limit r word is =
     let now : r.run ≡ run_after w handles limit (0 + handles) = ap (λ (s : LimitedRun). s.run) is in
-    now ∙ rw (zero-add, same) refl
+    now ∙ rw (zero-add, word) refl
 
 -- what is answered by how the run stands
-pub compared-run
-    : (handles limit : ℕ) (u v : List Letter) (run : RunState) (p : Progress)
+pub run_answer-stands
+    : (text : RunState → Verdict → List ℕ) (handles limit : ℕ) (u v : List Letter) (run : RunState)
+    (p : Progress)
     → run ≡ run_after (quotient u v) handles limit handles
     → p ≡ run.progress
-    → compared handles limit u v ≡ ended handles limit u v run p
-unfolding compared
-compared-run handles limit u v run p is stands = rw (stands, is) refl
+    → run_answer text handles limit u v ≡ ended (text run) handles limit p
+unfolding run_answer
+run_answer-stands text handles limit u v run p is stands = rw (stands, is) refl
 
 -- it doesn't go on
 pub run-over
@@ -83,116 +91,236 @@ run-decided w handles limit run sign is done none =
     run_after-Mixed w handles limit handles i (ap (λ (s : RunState). s.progress) (sym is) ∙ done ∙ ap progress.Done mixed)
 
 -- a quotient that is too long meets the length at once
-pub compared-long
-    : (w u v left right : List Letter) (handles limit : ℕ)
-    → w ≡ quotient left right
-    → left ≡ u
-    → right ≡ v
+pub run_answer-long
+    : (text : RunState → Verdict → List ℕ) (w u v : List Letter) (handles limit : ℕ)
+    → w ≡ quotient u v
     → limit < length w
-    → compared handles limit u v ≡ Some (limit_met (codes "length ") limit)
-unfolding compared
-compared-long w u v left right handles limit word first second long =
-    let same : w ≡ quotient u v = word ∙ rw (first, second) refl in
-    let met = run_after-long (quotient u v) handles limit handles (rw same at long) in
-    rw met refl
+    → run_answer text handles limit u v ≡ Some (limit_met (codes "length ") limit)
+unfolding run_answer
+run_answer-long text w u v handles limit word long =
+    let met = run_after-long (quotient u v) handles limit handles (rw word at long) in rw met refl
 
--- ---- The program answers ----
+-- ---- The program has one answer ----
 
 -- a run that is over has an answer
 ended-total
-    : (handles limit : ℕ) (u v : List Letter) (run : RunState) (p : Progress)
-    → run ≡ run_after (quotient u v) handles limit handles
+    : (text : Verdict → List ℕ) (handles limit : ℕ) (w : List Letter) (run : RunState) (p : Progress)
+    → run ≡ run_after w handles limit handles
     → run.progress ≡ p
-    → (a : Answer) × (ended handles limit u v run p ≡ Some a)
-ended-total handles limit u v run progress.Running is stands = absurd (run-over _ handles limit run is stands)
-ended-total handles limit u v run (progress.Done Empty) is stands = (_, refl)
-ended-total handles limit u v run (progress.Done (Positive i)) is stands = (_, refl)
-ended-total handles limit u v run (progress.Done (Negative i)) is stands = (_, refl)
-ended-total handles limit u v run (progress.Done (Mixed i)) is stands =
-    absurd (run-decided _ handles limit run (Mixed i) is stands refl)
-ended-total handles limit u v run progress.HandlesMet is stands = (_, refl)
-ended-total handles limit u v run progress.LengthMet is stands = (_, refl)
+    → (a : Answer) × (ended text handles limit p ≡ Some a)
+ended-total text handles limit w run progress.Running is stands = absurd (run-over w handles limit run is stands)
+ended-total text handles limit w run (progress.Done Empty) is stands = (_, refl)
+ended-total text handles limit w run (progress.Done (Positive i)) is stands = (_, refl)
+ended-total text handles limit w run (progress.Done (Negative i)) is stands = (_, refl)
+ended-total text handles limit w run (progress.Done (Mixed i)) is stands =
+    absurd (run-decided w handles limit run (Mixed i) is stands refl)
+ended-total text handles limit w run progress.HandlesMet is stands = (_, refl)
+ended-total text handles limit w run progress.LengthMet is stands = (_, refl)
 
-compared_words-total
+pub compared_words-total
     : (handles limit : ℕ) (words : Result (List Letter × List Letter) Fault)
     → (a : Answer) × (compared_words handles limit words ≡ Some a)
-unfolding compared
+unfolding run_answer
 compared_words-total handles limit (Err fault) = (_, refl)
-compared_words-total handles limit (Ok (u, v)) = ended-total handles limit u v _ _ refl refl
+compared_words-total handles limit (Ok (u, v)) = ended-total _ handles limit (quotient u v) _ _ refl refl
 
-out_of_short-total : (command : Command) (input : List ℕ) → (a : Answer) × (out_of_short command input ≡ Some a)
-out_of_short-total (Compare handles limit) input =
-    compared_words-total handles limit (two_words (MAX_INDEX + 1) input)
-out_of_short-total Check input = (_, refl)
-out_of_short-total (Act strands index limit) input = (_, refl)
-out_of_short-total (Laver exponent) input = (_, refl)
-out_of_short-total (Row exponent row) input = (_, refl)
-out_of_short-total (Bench pairs count seed) input = (_, refl)
+-- a term file has one answer of `eval`
+IsEvaluated-one
+    : (limit : ℕ) (input : List ℕ) (a b : Answer)
+    → IsEvaluated limit input a
+    → IsEvaluated limit input b
+    → a ≡ b
+IsEvaluated-one limit input a b (eval_refused e refused is) (eval_refused f also f_is) =
+    sym is ∙ ap file_refused (IsFileRefusal-unique 1 (lines_of input) e f refused also) ∙ f_is
+IsEvaluated-one limit input a b (eval_refused e refused is) (eval_read made first file f_is) =
+    absurd (IsFileRefusal-file 1 (lines_of input) made first None e file refused)
+IsEvaluated-one limit input a b (eval_read made first file is) (eval_refused e refused f_is) =
+    absurd (IsFileRefusal-file 1 (lines_of input) made first None e file refused)
+IsEvaluated-one limit input a b (eval_read made first file is) (eval_read again other also f_is) =
+    let same = IsTermFile-terms 1 (lines_of input) made again first other None None file also in
+    let one : term_at made first ≡ term_at again other = cc in
+    sym is ∙ ap (evaluated limit) one ∙ f_is
 
-out_of-total : (command : Command) (input : List ℕ) → (a : Answer) × (out_of command input ≡ Some a)
-unfolding out_of
-out_of-total command input = go (reads_input command && ltb MAX_INPUT (length input))
+-- and of `terms`
+AreCompared-one
+    : (handles limit : ℕ) (input : List ℕ) (a b : Answer)
+    → AreCompared handles limit input a
+    → AreCompared handles limit input b
+    → a ≡ b
+AreCompared-one handles limit input a b (terms_refused e refused is) (terms_refused f also f_is) =
+    sym is ∙ ap file_refused (IsFileRefusal-unique 2 (lines_of input) e f refused also) ∙ f_is
+AreCompared-one handles limit input a b (terms_refused e refused is) (terms_read made first second file f_is) =
+    absurd (IsFileRefusal-file 2 (lines_of input) made first (Some second) e file refused)
+AreCompared-one handles limit input a b (terms_read made first second file is) (terms_refused e refused f_is) =
+    absurd (IsFileRefusal-file 2 (lines_of input) made first (Some second) e file refused)
+AreCompared-one handles limit input a b (terms_read made first second file is) (terms_read again other next also f_is) =
+    let same = IsTermFile-terms 2 (lines_of input) made again first other (Some second) (Some next) file also in
+    let one : term_at made first ≡ term_at again other = cc in
+    let two : term_at made second ≡ term_at again next = cc in
+    let both : Some a ≡ Some b = sym is ∙ rw (one, two) f_is in
+    cc
+
+-- a word has one normal form, and so one answer of `normal`
+IsNormalOf-one
+    : (strands : ℕ) (word : Result (List Letter) Fault) (a b : Answer)
+    → 2 ≤ strands
+    → IsNormalOf strands word a
+    → IsNormalOf strands word b
+    → a ≡ b
+IsNormalOf-one strands (Err fault) a b two first second = first ∙ sym second
+IsNormalOf-one strands (Ok w) a b two first second =
+    let one = form_only first.form second.form w (rw first.on two) first.normal (second.on ∙ sym first.on) second.normal in
+    first.is ∙ ap (λ f. answer Done (normal_text f)) (sym one) ∙ sym second.is
+
+-- two words are equivalent or not
+IsDecided-one
+    : (strands : ℕ) (u v : List Letter) (a b : Answer)
+    → IsDecided strands u v a
+    → IsDecided strands u v b
+    → a ≡ b
+IsDecided-one strands u v a b (are_same equal is) (are_same again also) = is ∙ sym also
+IsDecided-one strands u v a b (are_same equal is) (are_different other also) = absurd (other equal)
+IsDecided-one strands u v a b (are_different other is) (are_same equal also) = absurd (other equal)
+IsDecided-one strands u v a b (are_different other is) (are_different again also) = is ∙ sym also
+
+IsSameOf-one
+    : (strands : ℕ) (words : Result (List Letter × List Letter) Fault) (a b : Answer)
+    → IsSameOf strands words a
+    → IsSameOf strands words b
+    → a ≡ b
+IsSameOf-one strands (Err fault) a b first second = first ∙ sym second
+IsSameOf-one strands (Ok (u, v)) a b first second = IsDecided-one strands u v a b first second
+
+-- a command has one answer to an input that isn't too long
+AnswersShort-one
+    : (command : Command) (input : List ℕ) (a b : Answer)
+    → IsBounded command
+    → AnswersShort command input a
+    → AnswersShort command input b
+    → a ≡ b
+AnswersShort-one (Compare handles limit) input a b bounded first second =
+    let both : Some a ≡ Some b = sym first ∙ second in cc
+AnswersShort-one (Terms handles limit) input a b bounded first second =
+    AreCompared-one handles limit input a b first second
+AnswersShort-one Check input a b bounded first second = sym first ∙ second
+AnswersShort-one (Normal strands) input a b bounded first second =
+    IsNormalOf-one strands (one_word strands input) a b bounded.0 first second
+AnswersShort-one (Same strands) input a b bounded first second =
+    IsSameOf-one strands (two_words strands input) a b first second
+AnswersShort-one (Act strands index limit) input a b bounded first second = sym first ∙ second
+AnswersShort-one (Eval limit) input a b bounded first second = IsEvaluated-one limit input a b first second
+AnswersShort-one (Laver exponent) input a b bounded first second = sym first ∙ second
+AnswersShort-one (Row exponent row) input a b bounded first second = sym first ∙ second
+AnswersShort-one Session input a b bounded first second = sym first ∙ second
+AnswersShort-one (Bench pairs count seed) input a b bounded first second = sym first ∙ second
+
+-- and to any input
+Answers-one
+    : (command : Command) (input : List ℕ) (a b : Answer)
+    → IsBounded command
+    → Answers command input a
+    → Answers command input b
+    → a ≡ b
+Answers-one command input a b bounded (past_limit reads long is) (past_limit again also is_too) = sym is ∙ is_too
+Answers-one command input a b bounded (past_limit reads long is) (in_limit within answers) =
+    let low = within reads in absurd (omega arith)
+Answers-one command input a b bounded (in_limit within answers) (past_limit reads long is) =
+    let low = within reads in absurd (omega arith)
+Answers-one command input a b bounded (in_limit within answers) (in_limit again answers_too) =
+    AnswersShort-one command input a b bounded answers answers_too
+
+-- the program has one answer to some words and an input
+pub IsAnswer-one
+    : (words : List (List ℕ)) (input : List ℕ) (a b : Answer)
+    → IsAnswer words input a
+    → IsAnswer words input b
+    → a ≡ b
+IsAnswer-one words input a b = go (command_of words) refl
   where
     go
-        : (long : Bool)
-        → (a : Answer) × (cond long (Some (limit_met (codes "input ") MAX_INPUT)) (out_of_short command input) ≡ Some a)
-    go true = (_, refl)
-    go false = out_of_short-total command input
-
--- the program has an answer to any words and any input
-pub out-total : (words : List (List ℕ)) (input : List ℕ) → (a : Answer) × (out words input ≡ Some a)
-out-total words input = total (command_of words)
-  where
-    total : (command : Option Command) → (a : Answer) × (out_of_words command input ≡ Some a)
-    total None = (_, refl)
-    total (Some command) = out_of-total command input
+        : (o : Option Command)
+        → command_of words ≡ o
+        → AnswersWords o input a
+        → AnswersWords o input b
+        → a ≡ b
+    go None known first second = sym first ∙ second
+    go (Some command) known first second =
+        Answers-one command input a b (command_of-IsBounded words command known) first second
 
 -- ---- How far the input was read ----
 
 some_injective : {x y : List ℕ} → Some x ≡ Some y → x ≡ y
 some_injective e = cc
 
--- an input that isn't too long
-out_of-within
-    : (command : Command) (input : List ℕ)
-    → length input ≤ MAX_INPUT
-    → out_of command input ≡ out_of_short command input
-unfolding out_of
-out_of-within command input within = rw (le-ltb MAX_INPUT (length input) within) (go (reads_input command))
+-- one that reads no input doesn't read it first
+reads_first-reads : (command : Command) → reads_first command ≡ true → reads_input command ≡ true
+reads_first-reads (Compare handles limit) first = refl
+reads_first-reads (Terms handles limit) first = refl
+reads_first-reads Check first = refl
+reads_first-reads (Normal strands) first = refl
+reads_first-reads (Same strands) first = refl
+reads_first-reads (Act strands index limit) first = refl
+reads_first-reads (Eval limit) first = refl
+reads_first-reads (Laver exponent) first = first
+reads_first-reads (Row exponent row) first = first
+reads_first-reads Session first = refl
+reads_first-reads (Bench pairs count seed) first = first
+
+-- a command that doesn't, and isn't a session, reads none
+pub once-alone
+    : (command : Command)
+    → reads_first command ≡ false
+    → command ≢ Session
+    → reads_input command ≡ false
+once-alone (Compare handles limit) alone once = alone
+once-alone (Terms handles limit) alone once = alone
+once-alone Check alone once = alone
+once-alone (Normal strands) alone once = alone
+once-alone (Same strands) alone once = alone
+once-alone (Act strands index limit) alone once = alone
+once-alone (Eval limit) alone once = alone
+once-alone (Laver exponent) alone once = refl
+once-alone (Row exponent row) alone once = refl
+once-alone Session alone once = absurd (once refl)
+once-alone (Bench pairs count seed) alone once = refl
+
+-- a command that reads no input has one answer
+pub Answers-alone
+    : (command : Command) (bytes input : List ℕ) (a : Answer)
+    → reads_input command ≡ false
+    → AnswersShort command bytes a
+    → Answers command input a
+Answers-alone command bytes input a alone is = in_limit (λ reads. let both = sym alone ∙ reads_first-reads command reads in absurd (cc)) (go command alone is)
   where
     go
-        : (reads : Bool)
-        → cond (reads && false) (Some (limit_met (codes "input ") MAX_INPUT)) (out_of_short command input)
-        ≡ out_of_short command input
-    go true = refl
-    go false = refl
-
--- a command that reads none has one answer
-pub out_of-alone
-    : (command : Command) (bytes input : List ℕ)
-    → reads_input command ≡ false
-    → out_of command input ≡ out_of_short command bytes
-unfolding out_of
-out_of-alone (Compare handles limit) bytes input alone = absurd (cc)
-out_of-alone Check bytes input alone = absurd (cc)
-out_of-alone (Act strands index limit) bytes input alone = absurd (cc)
-out_of-alone (Laver exponent) bytes input alone = refl
-out_of-alone (Row exponent row) bytes input alone = refl
-out_of-alone (Bench pairs count seed) bytes input alone = refl
+        : (command : Command)
+        → reads_input command ≡ false
+        → AnswersShort command bytes a
+        → AnswersShort command input a
+    go (Compare handles limit) alone is = absurd (cc)
+    go (Terms handles limit) alone is = absurd (cc)
+    go Check alone is = absurd (cc)
+    go (Normal strands) alone is = absurd (cc)
+    go (Same strands) alone is = absurd (cc)
+    go (Act strands index limit) alone is = absurd (cc)
+    go (Eval limit) alone is = absurd (cc)
+    go (Laver exponent) alone is = is
+    go (Row exponent row) alone is = is
+    go Session alone is = absurd (cc)
+    go (Bench pairs count seed) alone is = is
 
 -- an input that was read whole, where it is told, is the one that was left
-pub out_of-short
+pub Answers-read
     : (command : Command) (old new : Option (List ℕ)) (bytes : List ℕ) (a : Answer)
     → ReadsAll old new bytes
     → length bytes ≤ MAX_INPUT
-    → out_of_short command bytes ≡ Some a
-    → IfSome old (λ input. out_of command input ≡ Some a)
-unfolding out_of
-out_of-short command None new bytes a all within is = tt
-out_of-short command (Some input) None bytes a all within is = absurd (let e = all.taken in cc)
-out_of-short command (Some input) (Some rest) bytes a all within is =
+    → AnswersShort command bytes a
+    → IfSome old (λ input. Answers command input a)
+Answers-read command None new bytes a all within is = tt
+Answers-read command (Some input) None bytes a all within is = absurd (let e = all.taken in cc)
+Answers-read command (Some input) (Some rest) bytes a all within is =
     let whole : input ≡ bytes = some_injective all.taken ∙ ap (λ tail. bytes ++ tail) all.ended ∙ append-nil bytes in
-    rw whole (out_of-within command bytes within ∙ is)
+    rw whole (in_limit (λ reads. within) is)
 
 -- and nothing of it is left
 pub left-short
@@ -208,17 +336,15 @@ left-short (Some input) (Some rest) bytes m all within =
     ap Some (all.ended ∙ sym (drop_all (m + 1) input (rw whole (omega arith))))
 
 -- an input of which a byte past the limit was taken
-pub out_of-long
+pub Answers-long
     : (command : Command) (old new : Option (List ℕ))
-    → reads_input command ≡ true
+    → reads_first command ≡ true
     → Skips old new (MAX_INPUT + 1)
-    → IfSome old (λ input. out_of command input ≡ Some (limit_met (codes "input ") MAX_INPUT))
-unfolding out_of
-out_of-long command None new reads skips = tt
-out_of-long command (Some input) None reads (front, size, taken) = absurd cc
-out_of-long command (Some input) (Some rest) reads (front, size, taken) =
-    let long : MAX_INPUT < length input = rw (some_injective taken, length-append front rest) (omega arith) in
-    rw (reads, lt-ltb MAX_INPUT (length input) long) refl
+    → IfSome old (λ input. Answers command input (limit_met (codes "input ") MAX_INPUT))
+Answers-long command None new reads skips = tt
+Answers-long command (Some input) None reads (front, size, taken) = absurd cc
+Answers-long command (Some input) (Some rest) reads (front, size, taken) =
+    past_limit reads (rw (some_injective taken, length-append front rest) (omega arith)) refl
 
 -- keeps what stands behind that byte
 pub left-long
@@ -233,34 +359,79 @@ left-long (Some input) (Some rest) n (front, size, taken) =
 
 -- ---- What was told ----
 
--- where the input wasn't read nothing was written
-pub IsTold-unread
-    : (words : List (List ℕ)) (source old : Option (List ℕ))
-    → IfSome source (λ input. IsTold (out words input) ReadFault old old)
-IsTold-unread words None old = tt
-IsTold-unread words (Some input) old = let (a, is) = out-total words input in rw is refl
+-- where the input wasn't read, or memory ran out, there is no answer
+pub IsTold-nothing
+    : (words : List (List ℕ)) (s : Status) (source old : Option (List ℕ))
+    → (s ≡ ReadFault) ⊎ (s ≡ Memory)
+    → IfSome source (λ input. IsTold (IsAnswer words input) s old old)
+IsTold-nothing words s None old stops = tt
+IsTold-nothing words s (Some input) old stops = told_nothing stops
 
--- nor where memory ran out
-pub IsTold-memory
-    : (words : List (List ℕ)) (source old : Option (List ℕ))
-    → IfSome source (λ input. IsTold (out words input) Memory old old)
-IsTold-memory words None old = tt
-IsTold-memory words (Some input) old = let (a, is) = out-total words input in rw is refl
+-- a command's answer is the program's
+IsAnswer-command
+    : (words : List (List ℕ)) (command : Command) (input : List ℕ) (a : Answer)
+    → Some command ≡ command_of words
+    → Answers command input a
+    → IsAnswer words input a
+IsAnswer-command words command input a known is =
+    subst (λ (c : Option Command). AnswersWords c input a) known is
 
--- nor where it ran out for a command that has no input
+-- what was told of a command
+pub IsTold-command
+    : (words : List (List ℕ)) (command : Command) (a : Answer) (source : Option (List ℕ))
+    (s : Status) (old new : Option (List ℕ))
+    → Some command ≡ command_of words
+    → IfSome source (λ input. Answers command input a)
+    → Told a s old new
+    → IfSome source (λ input. IsTold (IsAnswer words input) s old new)
+IsTold-command words command a None s old new known is told = tt
+IsTold-command words command a (Some input) s old new known is told =
+    told_answer a (IsAnswer-command words command input a known is) told
+
+-- and of words that are none
+pub IsTold-usage
+    : (words : List (List ℕ)) (source : Option (List ℕ)) (s : Status) (old new : Option (List ℕ))
+    → command_of words ≡ None
+    → Told usage s old new
+    → IfSome source (λ input. IsTold (IsAnswer words input) s old new)
+IsTold-usage words None s old new none told = tt
+IsTold-usage words (Some input) s old new none told =
+    told_answer usage (subst (λ (c : Option Command). AnswersWords c input usage) (sym none) refl) told
+
+-- What was told of a command that has no input, and that nothing was read.
+abbrev pub HasToldAlone
+    : {S : Type 0} → List (List ℕ) → Status → S → S → Option (List ℕ) → Option (List ℕ) → Command → Type 0
+HasToldAlone words s before after old new command =
+    reads_input command ≡ false → (after ≡ before) × (s ≢ ReadFault) × IsTold (IsAnswer words []) s old new
+
+-- where memory ran out for such a command, nothing was written
 pub alone-memory
     : {S : Type 0} (words : List (List ℕ)) (command : Command) (before after : S)
     (old : Option (List ℕ))
     → Some command ≡ command_of words
     → (reads_input command ≡ false → after ≡ before)
-    → IfSome (command_of words) (λ command. reads_input command ≡ false →
-    (after ≡ before) × (Memory ≢ ReadFault) × IsTold (out words []) Memory old old)
+    → IfSome (command_of words) (HasToldAlone words Memory before after old old)
 alone-memory words command before after old known same =
     subst
-    (λ (c : Option Command). IfSome c (λ command. reads_input command ≡ false →
-    (after ≡ before) × (Memory ≢ ReadFault) × IsTold (out words []) Memory old old))
+    (λ (c : Option Command). IfSome c (HasToldAlone words Memory before after old old))
     known
-    (λ alone. (same alone, (λ e. cc), (let (a, is) = out-total words [] in rw is refl)))
+    (λ alone. (same alone, (λ e. cc), told_nothing (inr refl)))
+
+-- else what it answers
+pub alone-told
+    : {S : Type 0} (words : List (List ℕ)) (command : Command) (a : Answer) (s : Status) (before after : S)
+    (old new : Option (List ℕ))
+    → Some command ≡ command_of words
+    → (reads_input command ≡ false → after ≡ before)
+    → (reads_input command ≡ false → Answers command [] a)
+    → s ≢ ReadFault
+    → Told a s old new
+    → IfSome (command_of words) (HasToldAlone words s before after old new)
+alone-told words command a s before after old new known same is other told =
+    subst
+    (λ (c : Option Command). IfSome c (HasToldAlone words s before after old new))
+    known
+    (λ alone. (same alone, other, told_answer a (IsAnswer-command words command [] a known (is alone)) told))
 
 -- the status of words that are no command is told of that answer alone
 pub Told-Words

@@ -1,7 +1,7 @@
 -- Laws of the words and the tallies of `bench`.
-use Rattle.std.proofs.Common.{◌≡◌, ℕ, suc, zero, ◌+◌, ◌-◌, ◌<◌, ◌≤◌, List, [], ◌∷◌, ◌++◌, append_assoc, length, length-append, Option, Some, None, refl, sym, ap, ◌∙◌, arith}
+use Rattle.std.proofs.Common.{◌≡◌, ℕ, suc, zero, ◌+◌, ◌-◌, ◌<◌, ◌≤◌, List, [], ◌∷◌, ◌++◌, append_assoc, length, Option, Some, None, refl, sym, ap, ◌∙◌, arith}
 use Rattle.std.proofs.lemmas.List.{append-nil}
-use Rattle.braid_word.specs.Words.{Letter, opposite, inverse, quotient}
+use Rattle.braid_word.specs.Words.{Letter, quotient}
 use Rattle.braid_word.specs.declared.TheConstants.{MAX_LETTERS}
 use Rattle.braid_word.proofs.WordLemmas.{length-quotient}
 use Rattle.handle_reduce.specs.Runs.{RunState, LimitedRun, IsRunAfter}

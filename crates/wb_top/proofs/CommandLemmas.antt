@@ -2,6 +2,7 @@
 --
 -- The numbers of a command are within their bounds (`command_of-IsBounded`).
 use Rattle.std.proofs.Common.{◌≡◌, ℕ, ◌-◌, ◌^◌, ◌<◌, ◌≤◌, ◌==◌, ◌&&◌, Bool, true, false, ltb, not, List, [], ◌∷◌, length, codes, Option, Some, None, refl, subst, arith}
+use Rattle.std.specs.Option.{option_map}
 use Rattle.std.specs.Str.{bytes_eq}
 use Rattle.std.proofs.lemmas.Bool.{cond_both, and_parts, ltb-false}
 use Rattle.wb_base.specs.Numbers.{number_at}
@@ -9,24 +10,46 @@ use Rattle.handle_reduce.specs.declared.TheConstants.{MAX_BOUND}
 use Rattle.laver_table.specs.declared.TheConstants.{MAX_EXPONENT}
 use Rattle.wb_top.specs.declared.TheConstants.{MAX_STRANDS, MAX_IMAGE, MAX_PRINTED, MAX_SIZE, MAX_COUNT}
 use Rattle.wb_top.specs.declared.command.Command.{Command}
-use Rattle.wb_top.specs.declared.command.Command.TheVariants.{Compare, Check, Act, Laver, Row, Bench}
-use Rattle.wb_top.specs.Commands.{whole_number, number_of, compare_by, compare_of, check_of, act_by, act_on, act_of, laver_by, laver_of, row_by, row_in, row_of_numbers, pairs_by, bench_by, bench_of, command_of, IsBounded}
+use Rattle.wb_top.specs.declared.command.Command.TheVariants.{Compare, Terms, Check, Normal, Same, Act, Eval, Laver, Row, Session, Bench}
+use Rattle.wb_top.specs.Commands.{whole_number, number_of, one_number, both, two_numbers, check_of, act_by, act_on, act_of, session_of, row_by, row_in, row_of_numbers, pairs_by, bench_by, bench_of, command_of, IsBounded}
 use Rattle.wb_top.specs.Benching.{IsBoundedPairs}
 use Rattle.wb_top.specs.declared.bench.Pairs.{Pairs}
 
 -- ---- Words that are too few or too many ----
 
--- `compare` has two numbers
-pub compare_of-few : (numbers : List (List ℕ)) → length numbers < 2 → compare_of numbers ≡ None
-compare_of-few [] few = refl
-compare_of-few (a ∷ []) few = refl
-compare_of-few (a ∷ (b ∷ rest)) few = absurd (omega arith)
+-- a command of one number
+pub one_number-few
+    : (low high : ℕ) (numbers : List (List ℕ))
+    → length numbers < 1
+    → one_number low high numbers ≡ None
+one_number-few low high [] few = refl
+one_number-few low high (a ∷ rest) few = absurd (omega arith)
 
-pub compare_of-many : (numbers : List (List ℕ)) → 3 ≤ length numbers → compare_of numbers ≡ None
-compare_of-many [] many = refl
-compare_of-many (a ∷ []) many = refl
-compare_of-many (a ∷ (b ∷ [])) many = absurd (omega arith)
-compare_of-many (a ∷ (b ∷ (c ∷ rest))) many = refl
+pub one_number-many
+    : (low high : ℕ) (numbers : List (List ℕ))
+    → 2 ≤ length numbers
+    → one_number low high numbers ≡ None
+one_number-many low high [] many = refl
+one_number-many low high (a ∷ []) many = absurd (omega arith)
+one_number-many low high (a ∷ (b ∷ rest)) many = refl
+
+-- a command of two numbers
+pub two_numbers-few
+    : (low high : ℕ) (numbers : List (List ℕ))
+    → length numbers < 2
+    → two_numbers low high numbers ≡ None
+two_numbers-few low high [] few = refl
+two_numbers-few low high (a ∷ []) few = refl
+two_numbers-few low high (a ∷ (b ∷ rest)) few = absurd (omega arith)
+
+pub two_numbers-many
+    : (low high : ℕ) (numbers : List (List ℕ))
+    → 3 ≤ length numbers
+    → two_numbers low high numbers ≡ None
+two_numbers-many low high [] many = refl
+two_numbers-many low high (a ∷ []) many = refl
+two_numbers-many low high (a ∷ (b ∷ [])) many = absurd (omega arith)
+two_numbers-many low high (a ∷ (b ∷ (c ∷ rest))) many = refl
 
 -- `act` has three
 pub act_of-few : (numbers : List (List ℕ)) → length numbers < 3 → act_of numbers ≡ None
@@ -41,16 +64,6 @@ act_of-many (a ∷ []) many = refl
 act_of-many (a ∷ (b ∷ [])) many = refl
 act_of-many (a ∷ (b ∷ (c ∷ []))) many = absurd (omega arith)
 act_of-many (a ∷ (b ∷ (c ∷ (d ∷ rest)))) many = refl
-
--- `laver` has one
-pub laver_of-few : (numbers : List (List ℕ)) → length numbers < 1 → laver_of numbers ≡ None
-laver_of-few [] few = refl
-laver_of-few (a ∷ rest) few = absurd (omega arith)
-
-pub laver_of-many : (numbers : List (List ℕ)) → 2 ≤ length numbers → laver_of numbers ≡ None
-laver_of-many [] many = refl
-laver_of-many (a ∷ []) many = absurd (omega arith)
-laver_of-many (a ∷ (b ∷ rest)) many = refl
 
 -- `row` has two
 pub row_of_numbers-few : (numbers : List (List ℕ)) → length numbers < 2 → row_of_numbers numbers ≡ None
@@ -116,30 +129,49 @@ whole_number-within low high size (Some (value, digits)) n is =
     (λ fail found. absurd cc)
     is
 
--- the numbers of `compare`
-compare_by-IsBounded
-    : (handles limit : Option ℕ) (command : Command)
-    → ((n : ℕ) → handles ≡ Some n → IsBetween 0 MAX_BOUND n)
-    → ((n : ℕ) → limit ≡ Some n → IsBetween 0 MAX_BOUND n)
-    → compare_by handles limit ≡ Some command
-    → IsBounded command
-compare_by-IsBounded (Some a) (Some b) command first second is =
-    let same : Compare a b ≡ command = cc in
-    subst IsBounded same ((first a refl).below, (second b refl).below)
-compare_by-IsBounded (Some a) None command first second is = cc
-compare_by-IsBounded None limit command first second is = cc
+-- the one number of a command
+one_number-within
+    : (low high : ℕ) (numbers : List (List ℕ)) (n : ℕ)
+    → one_number low high numbers ≡ Some n
+    → IsBetween low high n
+one_number-within low high [] n is = cc
+one_number-within low high (a ∷ []) n is = whole_number-within low high (length a) (number_at a) n is
+one_number-within low high (a ∷ (b ∷ rest)) n is = cc
 
-compare_of-IsBounded
-    : (numbers : List (List ℕ)) (command : Command)
-    → compare_of numbers ≡ Some command
+-- its two numbers
+both-within
+    : (low high : ℕ) (first second : Option ℕ) (n : ℕ × ℕ)
+    → ((k : ℕ) → first ≡ Some k → IsBetween low high k)
+    → ((k : ℕ) → second ≡ Some k → IsBetween low high k)
+    → both first second ≡ Some n
+    → IsBetween low high n.0 × IsBetween low high n.1
+both-within low high (Some a) (Some b) n one two is =
+    let same : (a, b) ≡ n = cc in
+    subst (λ (n : ℕ × ℕ). IsBetween low high n.0 × IsBetween low high n.1) same (one a refl, two b refl)
+both-within low high (Some a) None n one two is = absurd (cc)
+both-within low high None second n one two is = absurd (cc)
+
+two_numbers-within
+    : (low high : ℕ) (numbers : List (List ℕ)) (n : ℕ × ℕ)
+    → two_numbers low high numbers ≡ Some n
+    → IsBetween low high n.0 × IsBetween low high n.1
+two_numbers-within low high [] n is = absurd (cc)
+two_numbers-within low high (a ∷ []) n is = absurd (cc)
+two_numbers-within low high (a ∷ (b ∷ [])) n is =
+    both-within low high (number_of low high a) (number_of low high b) n
+    (whole_number-within low high (length a) (number_at a))
+    (whole_number-within low high (length b) (number_at b)) is
+two_numbers-within low high (a ∷ (b ∷ (c ∷ rest))) n is = absurd (cc)
+
+-- a command is bounded where it is for all numbers that it may have
+made-IsBounded
+    : {X : Type 0} (make : X → Command) (read : Option X) (command : Command)
+    → ((x : X) → read ≡ Some x → IsBounded (make x))
+    → option_map make read ≡ Some command
     → IsBounded command
-compare_of-IsBounded [] command is = cc
-compare_of-IsBounded (a ∷ []) command is = cc
-compare_of-IsBounded (a ∷ (b ∷ [])) command is =
-    compare_by-IsBounded (number_of 0 MAX_BOUND a) (number_of 0 MAX_BOUND b) command
-    (whole_number-within 0 MAX_BOUND (length a) (number_at a))
-    (whole_number-within 0 MAX_BOUND (length b) (number_at b)) is
-compare_of-IsBounded (a ∷ (b ∷ (c ∷ rest))) command is = cc
+made-IsBounded make None command bounded is = absurd (cc)
+made-IsBounded make (Some x) command bounded is =
+    let same : make x ≡ command = cc in subst IsBounded same (bounded x refl)
 
 -- `check` has none
 check_of-IsBounded
@@ -148,6 +180,14 @@ check_of-IsBounded
     → IsBounded command
 check_of-IsBounded [] command is = let same : Check ≡ command = cc in subst IsBounded same tt
 check_of-IsBounded (a ∷ rest) command is = cc
+
+-- nor has `session`
+session_of-IsBounded
+    : (numbers : List (List ℕ)) (command : Command)
+    → session_of numbers ≡ Some command
+    → IsBounded command
+session_of-IsBounded [] command is = let same : Session ≡ command = cc in subst IsBounded same tt
+session_of-IsBounded (a ∷ rest) command is = cc
 
 -- the numbers of `act`
 act_by-IsBounded
@@ -186,26 +226,6 @@ act_of-IsBounded (a ∷ (b ∷ (c ∷ []))) command is =
     act_on-IsBounded (number_of 2 MAX_STRANDS a) b c command
     (whole_number-within 2 MAX_STRANDS (length a) (number_at a)) is
 act_of-IsBounded (a ∷ (b ∷ (c ∷ (d ∷ rest)))) command is = cc
-
--- the number of `laver`
-laver_by-IsBounded
-    : (exponent : Option ℕ) (command : Command)
-    → ((n : ℕ) → exponent ≡ Some n → IsBetween 0 MAX_PRINTED n)
-    → laver_by exponent ≡ Some command
-    → IsBounded command
-laver_by-IsBounded (Some n) command within is =
-    let same : Laver n ≡ command = cc in subst IsBounded same (within n refl).below
-laver_by-IsBounded None command within is = cc
-
-laver_of-IsBounded
-    : (numbers : List (List ℕ)) (command : Command)
-    → laver_of numbers ≡ Some command
-    → IsBounded command
-laver_of-IsBounded [] command is = cc
-laver_of-IsBounded (a ∷ []) command is =
-    laver_by-IsBounded (number_of 0 MAX_PRINTED a) command
-    (whole_number-within 0 MAX_PRINTED (length a) (number_at a)) is
-laver_of-IsBounded (a ∷ (b ∷ rest)) command is = cc
 
 -- the numbers of `row`
 row_by-IsBounded
@@ -309,16 +329,32 @@ command_of-IsBounded [] command is = cc
 command_of-IsBounded (name ∷ numbers) command is =
     let Bounds : Option Command → Type 0 = λ o. o ≡ Some command → IsBounded command in
     cond_both (bytes_eq name (codes "compare")) _ _ Bounds
-    (λ named. compare_of-IsBounded numbers command)
+    (λ named. made-IsBounded (λ (n : ℕ × ℕ). Compare n.0 n.1) (two_numbers 0 MAX_BOUND numbers) command
+    (λ n is. let (a, b) = two_numbers-within 0 MAX_BOUND numbers n is in (a.below, b.below)))
+    (λ other. cond_both (bytes_eq name (codes "terms")) _ _ Bounds
+    (λ named. made-IsBounded (λ (n : ℕ × ℕ). Terms n.0 n.1) (two_numbers 0 MAX_BOUND numbers) command
+    (λ n is. let (a, b) = two_numbers-within 0 MAX_BOUND numbers n is in (a.below, b.below)))
     (λ other. cond_both (bytes_eq name (codes "check")) _ _ Bounds
     (λ named. check_of-IsBounded numbers command)
+    (λ other. cond_both (bytes_eq name (codes "normal")) _ _ Bounds
+    (λ named. made-IsBounded (λ n. Normal n) (one_number 2 MAX_STRANDS numbers) command
+    (λ n is. let a = one_number-within 2 MAX_STRANDS numbers n is in (a.above, a.below)))
+    (λ other. cond_both (bytes_eq name (codes "same")) _ _ Bounds
+    (λ named. made-IsBounded (λ n. Same n) (one_number 2 MAX_STRANDS numbers) command
+    (λ n is. let a = one_number-within 2 MAX_STRANDS numbers n is in (a.above, a.below)))
     (λ other. cond_both (bytes_eq name (codes "act")) _ _ Bounds
     (λ named. act_of-IsBounded numbers command)
+    (λ other. cond_both (bytes_eq name (codes "eval")) _ _ Bounds
+    (λ named. made-IsBounded (λ n. Eval n) (one_number 0 MAX_BOUND numbers) command
+    (λ n is. (one_number-within 0 MAX_BOUND numbers n is).below))
     (λ other. cond_both (bytes_eq name (codes "laver")) _ _ Bounds
-    (λ named. laver_of-IsBounded numbers command)
+    (λ named. made-IsBounded (λ n. Laver n) (one_number 0 MAX_PRINTED numbers) command
+    (λ n is. (one_number-within 0 MAX_PRINTED numbers n is).below))
     (λ other. cond_both (bytes_eq name (codes "row")) _ _ Bounds
     (λ named. row_of_numbers-IsBounded numbers command)
+    (λ other. cond_both (bytes_eq name (codes "session")) _ _ Bounds
+    (λ named. session_of-IsBounded numbers command)
     (λ other. cond_both (bytes_eq name (codes "bench")) _ _ Bounds
     (λ named. bench_of-IsBounded numbers command)
-    (λ other found. absurd cc))))))
+    (λ other found. absurd cc)))))))))))
     is

@@ -1,13 +1,18 @@
 -- Laws of the words of an input.
 --
 -- What the first lines of an input are decides what its words are (`one_word-first` and its kin). Words
--- that are read can be read again (`two_words-IsReadable`).
-use Rattle.std.proofs.Common.{◌≡◌, ℕ, List, [], ◌∷◌, Option, Some, None, Result, Ok, Err, refl, sym, ap, subst, ◌∙◌}
+-- that are read on so many strands are on them, and can be read again (`two_words-IsReadOn`), also on more
+-- strands (`two_words-more_strands`).
+use Rattle.std.proofs.Common.{◌≡◌, ℕ, ◌+◌, ◌<◌, ◌≤◌, Bool, true, false, not, cond, ltb, length, arith, List, [], ◌∷◌, Option, Some, None, Result, Ok, Err, refl, sym, ap, subst, ◌∙◌}
+use Rattle.std.specs.List.{position_or_len}
 use Rattle.std.specs.Result.{IsErrAnd}
+use Rattle.std.proofs.lemmas.Bool.{lt-ltb, le-ltb, ltb-true, ltb-false}
 use Rattle.wb_base.specs.Lines.{lines_of}
-use Rattle.braid_word.specs.Words.{Letter}
+use Rattle.braid_word.specs.Words.{Letter, IsOn}
 use Rattle.braid_word.specs.Notation.{word_of, IsReadable}
 use Rattle.braid_word.specs.declared.reader.WordErr.{WordErr}
+use Rattle.braid_word.specs.declared.TheConstants.{MAX_INDEX}
+use Rattle.braid_word.proofs.WordLemmas.{each_weaker}
 use Rattle.braid_word.proofs.ReadWordLemmas.{IsReadable-word_of}
 use Rattle.wb_top.specs.declared.input.Fault.{Fault}
 use Rattle.wb_top.specs.declared.input.Fault.TheVariants.{Lines}
@@ -16,71 +21,204 @@ use Rattle.wb_top.specs.declared.input.InputErr.TheVariants as input_errors
 use Rattle.wb_top.specs.Inputs.{first_beyond, unless_beyond, word_by, word_on, only_word, one_word_of, one_word, second_word, first_word, two_words_of, two_words}
 use Rattle.wb_top.specs.Reading.{Fails, Reads}
 
--- ---- The words of an input ----
+-- ---- Words on so many strands ----
 
--- both can be read
-abbrev pub AreRead : List Letter → List Letter → Type 0
-AreRead u v = IsReadable u × IsReadable v
+-- The test for a letter that isn't on so many strands.
+abbrev is_beyond : ℕ → Letter → Bool
+is_beyond strands x = not (ltb x.index strands)
 
--- a word of a line
+-- a position that is none is past the end
+none-past : (k n : ℕ) → cond (ltb k n) (Some k) None ≡ None → n ≤ k
+none-past k n none = go (ltb k n) refl none
+  where
+    go : (within : Bool) → ltb k n ≡ within → cond within (Some k) None ≡ None → n ≤ k
+    go true test none = absurd (cc)
+    go false test none = ltb-false k n test
+
+-- letters of which none is beyond the strands
+past-on
+    : (strands : ℕ) (w : List Letter)
+    → IsOn (MAX_INDEX + 1) w
+    → length w ≤ position_or_len (is_beyond strands) w
+    → IsOn strands w
+past-on strands [] on past = tt
+past-on strands (x ∷ w) on past = go (ltb x.index strands) refl (past-on strands w on.1)
+  where
+    go
+        : (low : Bool)
+        → ltb x.index strands ≡ low
+        → (length w ≤ position_or_len (is_beyond strands) w → IsOn strands w)
+        → IsOn strands (x ∷ w)
+    go true low rest =
+        ((on.0.0, ltb-true x.index strands low), rest (let more = rw low at past in omega arith))
+    go false high rest = absurd (let more = rw high at past in omega arith)
+
+-- none is beyond where all are on
+on-past
+    : (strands : ℕ) (w : List Letter)
+    → IsOn strands w
+    → position_or_len (is_beyond strands) w ≡ length w
+on-past strands [] on = refl
+on-past strands (x ∷ w) on =
+    rw (lt-ltb x.index strands on.0.1) (let rest = on-past strands w on.1 in omega arith)
+
+-- What a word is that was read on so many strands.
+pub record IsReadOn (strands : ℕ) (w : List Letter) : Type 0 where
+  pub readable : IsReadable w
+  pub on : IsOn strands w
+
+-- such a word of a line
 word_by-Ok
     : (strands k : ℕ) (read : Result (List Letter) WordErr) (w : List Letter)
     → word_by strands k read ≡ Ok w
-    → read ≡ Ok w
-word_by-Ok strands k (Ok v) w is = go (first_beyond strands v) is
+    → (read ≡ Ok w) × (first_beyond strands w ≡ None)
+word_by-Ok strands k (Ok v) w is = go (first_beyond strands v) refl is
   where
-    go : (o : Option ℕ) → unless_beyond k v o ≡ Ok w → ◌≡◌ {A = Result (List Letter) WordErr} (Ok v) (Ok w)
-    go None is = let same : v ≡ w = cc in ap (λ z. Ok z) same
-    go (Some place) is = absurd (cc)
+    go
+        : (o : Option ℕ)
+        → first_beyond strands v ≡ o
+        → unless_beyond k v o ≡ Ok w
+        → (◌≡◌ {A = Result (List Letter) WordErr} (Ok v) (Ok w)) × (first_beyond strands w ≡ None)
+    go None none is =
+        let same : v ≡ w = cc in
+        (ap (λ z. Ok z) same, subst (λ z. first_beyond strands z ≡ None) same none)
+    go (Some place) found is = absurd (cc)
 word_by-Ok strands k (Err e) w is = absurd (cc)
 
-word_on-IsReadable
+word_on-IsReadOn
     : (strands k : ℕ) (text : List ℕ) (w : List Letter)
     → word_on strands k text ≡ Ok w
-    → IsReadable w
-word_on-IsReadable strands k text w is =
-    IsReadable-word_of text w (word_by-Ok strands k (word_of text) w is)
+    → IsReadOn strands w
+word_on-IsReadOn strands k text w is =
+    let (read, none) = word_by-Ok strands k (word_of text) w is in
+    let readable = IsReadable-word_of text w read in
+    record {
+      readable = readable;
+      on = past-on strands w readable.on
+          (none-past (position_or_len (is_beyond strands) w) (length w) none);
+    }
 
--- two words, the second after the first
-second_word-IsReadable
-    : (s : List Letter) (rest : List (List ℕ)) (read : Result (List Letter) Fault) (u v : List Letter)
-    → ((w : List Letter) → read ≡ Ok w → IsReadable w)
-    → IsReadable s
-    → second_word s rest read ≡ Ok (u, v)
-    → AreRead u v
-second_word-IsReadable s [] (Ok t) u v readable first is =
-    let both : (s, t) ≡ (u, v) = cc in
-    subst (λ (r : List Letter × List Letter). AreRead r.0 r.1) both (first, readable t refl)
-second_word-IsReadable s (text ∷ rest) (Ok t) u v readable first is = absurd (cc)
-second_word-IsReadable s rest (Err fault) u v readable first is = absurd (cc)
+-- a word that is read on some strands is read on more
+word_on-more
+    : (strands more k : ℕ) (text : List ℕ) (w : List Letter)
+    → strands ≤ more
+    → word_on strands k text ≡ Ok w
+    → word_on more k text ≡ Ok w
+word_on-more strands more k text w few is =
+    let (read, none) = word_by-Ok strands k (word_of text) w is in
+    let on = each_weaker (λ x. (1 ≤ x.index) × (x.index < strands)) (λ x. (1 ≤ x.index) × (x.index < more))
+    (λ x low. (low.0, let below = low.1 in omega (arith, below))) w (word_on-IsReadOn strands k text w is).on in
+    let none : first_beyond more w ≡ None
+    = rw (on-past more w on, le-ltb (length w) (length w) (omega arith)) refl in
+    rw (read, none) refl
 
-first_word-IsReadable
-    : (strands : ℕ) (rest : List (List ℕ)) (read : Result (List Letter) Fault) (u v : List Letter)
-    → ((w : List Letter) → read ≡ Ok w → IsReadable w)
-    → first_word strands rest read ≡ Ok (u, v)
-    → AreRead u v
-first_word-IsReadable strands [] (Ok s) u v readable is = absurd (cc)
-first_word-IsReadable strands (text ∷ rest) (Ok s) u v readable is =
-    second_word-IsReadable s rest (word_on strands 2 text) u v (word_on-IsReadable strands 2 text)
-    (readable s refl) is
-first_word-IsReadable strands [] (Err fault) u v readable is = absurd (cc)
-first_word-IsReadable strands (text ∷ rest) (Err fault) u v readable is = absurd (cc)
+-- ---- The words of an input ----
 
-two_words_of-IsReadable
-    : (strands : ℕ) (all : List (List ℕ)) (u v : List Letter)
-    → two_words_of strands all ≡ Ok (u, v)
-    → AreRead u v
-two_words_of-IsReadable strands [] u v is = absurd (cc)
-two_words_of-IsReadable strands (text ∷ rest) u v is =
-    first_word-IsReadable strands rest (word_on strands 1 text) u v (word_on-IsReadable strands 1 text) is
+-- What each word of a line is, the words of an input are, for any property of words.
+module _ (P : List Letter → Type 0) (strands : ℕ) (each : (k : ℕ) (text : List ℕ) (w : List Letter) → word_on strands k text ≡ Ok w → P w) where
+  -- a word, and no more
+  only_word-each
+      : (rest : List (List ℕ)) (read : Result (List Letter) Fault) (w : List Letter)
+      → ((v : List Letter) → read ≡ Ok v → P v)
+      → only_word rest read ≡ Ok w
+      → P w
+  only_word-each [] (Ok v) w first is = let same : v ≡ w = cc in subst P same (first v refl)
+  only_word-each (text ∷ rest) (Ok v) w first is = absurd (cc)
+  only_word-each rest (Err fault) w first is = absurd (cc)
+
+  one_word_of-each : (all : List (List ℕ)) (w : List Letter) → one_word_of strands all ≡ Ok w → P w
+  one_word_of-each [] w is = absurd (cc)
+  one_word_of-each (text ∷ rest) w is =
+      only_word-each rest (word_on strands 1 text) w (each 1 text) is
+
+  -- two words, the second after the first
+  second_word-each
+      : (s : List Letter) (rest : List (List ℕ)) (read : Result (List Letter) Fault) (u v : List Letter)
+      → ((w : List Letter) → read ≡ Ok w → P w)
+      → P s
+      → second_word s rest read ≡ Ok (u, v)
+      → P u × P v
+  second_word-each s [] (Ok t) u v second first is =
+      let both : (s, t) ≡ (u, v) = cc in
+      subst (λ (r : List Letter × List Letter). P r.0 × P r.1) both (first, second t refl)
+  second_word-each s (text ∷ rest) (Ok t) u v second first is = absurd (cc)
+  second_word-each s rest (Err fault) u v second first is = absurd (cc)
+
+  first_word-each
+      : (rest : List (List ℕ)) (read : Result (List Letter) Fault) (u v : List Letter)
+      → ((w : List Letter) → read ≡ Ok w → P w)
+      → first_word strands rest read ≡ Ok (u, v)
+      → P u × P v
+  first_word-each [] (Ok s) u v first is = absurd (cc)
+  first_word-each (text ∷ rest) (Ok s) u v first is =
+      second_word-each s rest (word_on strands 2 text) u v (each 2 text) (first s refl) is
+  first_word-each [] (Err fault) u v first is = absurd (cc)
+  first_word-each (text ∷ rest) (Err fault) u v first is = absurd (cc)
+
+  two_words_of-each : (all : List (List ℕ)) (u v : List Letter) → two_words_of strands all ≡ Ok (u, v) → P u × P v
+  two_words_of-each [] u v is = absurd (cc)
+  two_words_of-each (text ∷ rest) u v is =
+      first_word-each rest (word_on strands 1 text) u v (each 1 text) is
+
+-- the word of an input
+pub one_word-IsReadOn
+    : (strands : ℕ) (input : List ℕ) (w : List Letter)
+    → one_word strands input ≡ Ok w
+    → IsReadOn strands w
+unfolding one_word
+one_word-IsReadOn strands input w is =
+    one_word_of-each (IsReadOn strands) strands (word_on-IsReadOn strands) (lines_of input) w is
 
 -- the words of an input
-pub two_words-IsReadable
+pub two_words-IsReadOn
     : (strands : ℕ) (input : List ℕ) (u v : List Letter)
     → two_words strands input ≡ Ok (u, v)
-    → AreRead u v
+    → IsReadOn strands u × IsReadOn strands v
 unfolding two_words
-two_words-IsReadable strands input u v is = two_words_of-IsReadable strands (lines_of input) u v is
+two_words-IsReadOn strands input u v is =
+    two_words_of-each (IsReadOn strands) strands (word_on-IsReadOn strands) (lines_of input) u v is
+
+-- words that are read on some strands are read on more
+second_word-more_strands
+    : (s : List Letter) (rest : List (List ℕ)) (read again : Result (List Letter) Fault)
+    (u v : List Letter)
+    → ((w : List Letter) → read ≡ Ok w → again ≡ Ok w)
+    → second_word s rest read ≡ Ok (u, v)
+    → second_word s rest again ≡ Ok (u, v)
+second_word-more_strands s rest (Ok t) again u v wide is = rw (wide t refl) is
+second_word-more_strands s rest (Err fault) again u v wide is = absurd (cc)
+
+first_word-more_strands
+    : (strands more : ℕ) (rest : List (List ℕ)) (read again : Result (List Letter) Fault)
+    (u v : List Letter)
+    → strands ≤ more
+    → ((w : List Letter) → read ≡ Ok w → again ≡ Ok w)
+    → first_word strands rest read ≡ Ok (u, v)
+    → first_word more rest again ≡ Ok (u, v)
+first_word-more_strands strands more [] (Ok s) again u v few wide is = absurd (cc)
+first_word-more_strands strands more (text ∷ rest) (Ok s) again u v few wide is =
+    rw (wide s refl)
+    (second_word-more_strands s rest (word_on strands 2 text) (word_on more 2 text) u v
+    (λ w. word_on-more strands more 2 text w few) is)
+first_word-more_strands strands more [] (Err fault) again u v few wide is = absurd (cc)
+first_word-more_strands strands more (text ∷ rest) (Err fault) again u v few wide is = absurd (cc)
+
+pub two_words-more_strands
+    : (strands more : ℕ) (input : List ℕ) (u v : List Letter)
+    → strands ≤ more
+    → two_words strands input ≡ Ok (u, v)
+    → two_words more input ≡ Ok (u, v)
+unfolding two_words
+two_words-more_strands strands more input u v few is = go (lines_of input) is
+  where
+    go
+        : (all : List (List ℕ))
+        → two_words_of strands all ≡ Ok (u, v)
+        → two_words_of more all ≡ Ok (u, v)
+    go [] is = absurd (cc)
+    go (text ∷ rest) is =
+        first_word-more_strands strands more rest (word_on strands 1 text) (word_on more 1 text) u v few
+        (λ w. word_on-more strands more 1 text w few) is
 
 -- ---- Faults ----
 

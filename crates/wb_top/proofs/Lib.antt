@@ -1,8 +1,10 @@
 pub mod BenchLemmas
 pub mod TextLemmas
 pub mod InputLemmas
-pub mod AnswerLemmas
 pub mod CommandLemmas
+pub mod AnswerLemmas
+pub mod TermAnswerLemmas
 pub mod TraceLengths
 pub mod AcceptedTraces
 pub mod VerdictLemmas
+pub mod SessionLemmas

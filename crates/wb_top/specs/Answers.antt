@@ -4,96 +4,52 @@
 -- command's form, and for a limit that is met, it is a line that says so. Else it is the command's text.
 -- Source: this project's own.
 --
---   Answer                    a status and a text
---   compared H L u v          the answer of `compare H L` on the words u and v
 --   checked file              the answer of `check` on what a file is
+--   IsNormalised N w a        a is the answer of `normal N` on the word w
+--   IsDecided N u v a         a is the answer of `same N` on the words u and v
 --   acted I L w               the answer of `act N I L` on the word w
 --   whole_table n             the answer of `laver n`
 --   table_row n p             the answer of `row n p`
+--   conversed input           the answer of `session`
 --   benched pairs count seed  the answer of `bench`
---   out_of command input      the answer of a command on an input
---   out words input           the answer of the program
---   Told answer s old new     with status s a sink was told that answer
+--   Answers command input a   a is the answer of a command on an input
+--   IsAnswer words input a    a is the answer of the program
 --
--- `out` is `Some` for any words and any input (`out-total` in `proofs/AnswerLemmas.antt`), and what `run`
--- ensures is that answer alone.
-use Rattle.std.specs.Prelude.{◌≡◌, ℕ, ◌+◌, ◌^◌, ◌&&◌, not, Bool, false, nat_lt, if◌then◌else◌, List, [], ◌∷◌, ◌++◌, length, codes, decimal, Option, Some, None, Result, Ok, Err, map}
-use Rattle.std.specs.Option.{option_map}
-use Rattle.std.specs.Io.KnownBytes.{append_known}
-use Rattle.wb_base.specs.Streams.{PutsFront}
+-- No words and no input have two answers (`law_one_answer`).
+use Rattle.std.specs.Prelude.{◌≡◌, ℕ, ◌+◌, ◌^◌, ◌<◌, ◌≤◌, ◌&&◌, not, Bool, true, false, nat_lt, if◌then◌else◌, List, [], ◌∷◌, ◌++◌, length, codes, decimal, Option, Some, None, Result, Ok, Err}
 use Rattle.wb_base.specs.Lines.{line}
-use Rattle.wb_base.specs.declared.status.Status.{Status}
-use Rattle.wb_base.specs.declared.status.Status.TheVariants.{Done, Refused, Words, Input, Limit, ReadFault, WriteFault, Memory}
-use Rattle.braid_word.specs.Words.{Letter, quotient}
+use Rattle.wb_base.specs.declared.status.Status.TheVariants.{Done, Refused}
+use Rattle.braid_word.specs.Words.{Letter}
+use Rattle.braid_word.specs.Equivalence.{EquivalentOn}
 use Rattle.braid_word.specs.declared.TheConstants.{MAX_INDEX}
+use Rattle.garside_form.specs.NormalForms.{Form, IsFormOf}
+use Rattle.garside_form.specs.NormalText.{normal_text}
 use Rattle.free_word.specs.FreeWords.{Gen, gen}
 use Rattle.free_word.specs.FreeText.{free_text}
 use Rattle.artin_laws.specs.Action.{act}
-use Rattle.handle_reduce.specs.Runs.{RunState, run_after}
-use Rattle.handle_reduce.specs.declared.progress.Progress.{Progress}
-use Rattle.handle_reduce.specs.declared.progress.Progress.TheVariants as progress
 use Rattle.wb_top.specs.declared.TheConstants.{MAX_INPUT}
 use Rattle.trace_format.specs.declared.verdict.Verdict.{Verdict}
 use Rattle.wb_top.specs.declared.command.Command.{Command}
-use Rattle.wb_top.specs.declared.command.Command.TheVariants.{Compare, Check, Act, Laver, Row, Bench}
+use Rattle.wb_top.specs.declared.command.Command.TheVariants.{Compare, Terms, Check, Normal, Same, Act, Eval, Laver, Row, Session, Bench}
 use Rattle.wb_top.specs.declared.input.Fault.{Fault}
 use Rattle.laver_table.specs.Product.{product_rows}
 use Rattle.laver_table.specs.Table.{row_of}
 use Rattle.laver_table.specs.TableText.{row_line, table_text}
-use Rattle.trace_format.specs.Verdicts.{verdict_of}
-use Rattle.trace_format.specs.TraceText.{trace_text, handle_step, verdict_word}
+use Rattle.trace_format.specs.TraceText.{verdict_word}
 use Rattle.trace_check.specs.Accepted.{Claim}
 use Rattle.trace_check.specs.Checking.{checked_of}
 use Rattle.trace_check.specs.declared.checked.Why.{Why}
-use Rattle.trace_check.specs.declared.checked.Why.TheVariants.{Form, Header, Step, Long, Witness, Sign, Truncated, Extra}
-use Rattle.wb_top.specs.Inputs.{fault_text, one_word, two_words}
+use Rattle.trace_check.specs.declared.checked.Why.TheVariants as causes
+use Rattle.session_run.specs.Conversation.{session_answer}
+use Rattle.wb_top.specs.Inputs.{one_word, two_words}
 use Rattle.wb_top.specs.declared.bench.Pairs.{Pairs}
 use Rattle.wb_top.specs.Bench.{none_counted, tallied, tally_text}
-use Rattle.wb_top.specs.Commands.{command_of, reads_input}
-
--- ---- Answers ----
-
-pub record Answer : Type 0 where
-  pub status : Status
-  pub text : List ℕ
-
-abbrev pub answer : Status → List ℕ → Answer
-answer status text = record { status = status; text = text }
-
--- Words that are no command.
-abbrev pub usage : Answer
-usage = answer Words (line (codes "usage: braid_bench COMMAND NUMBERS"))
-
--- Input that isn't of the command's form, with its first fault.
-abbrev pub bad_input : Fault → Answer
-bad_input fault = answer Input (fault_text fault)
-
--- A limit that was met, by its name and its number.
-abbrev pub limit_met : List ℕ → ℕ → Answer
-limit_met name number = answer Limit (line ((codes "limit " ++ name) ++ decimal number))
+use Rattle.wb_top.specs.Commands.{command_of, reads_first}
+use Rattle.wb_top.specs.Answer.{Answer, answer, usage, bad_input, limit_met}
+use Rattle.wb_top.specs.Reductions.{compared}
+use Rattle.wb_top.specs.TermAnswers.{IsEvaluated, AreCompared}
 
 -- ---- compare ----
-
--- The answer of a run of the quotient of u and v that stands so after as many turns as it may reduce
--- handles. Such a run isn't running, and its sign isn't mixed.
-abbrev pub ended : ℕ → ℕ → List Letter → List Letter → RunState → Progress → Option Answer
-ended handles limit u v run progress.Running = None
-ended handles limit u v run (progress.Done sign) =
-    option_map (λ (verdict : Verdict). answer Done (trace_text (record {
-      left = u;
-      right = v;
-      steps = map handle_step run.steps;
-      verdict = verdict;
-      witness = run.present;
-    }))) (verdict_of sign)
-ended handles limit u v run progress.HandlesMet = Some (limit_met (codes "handles ") handles)
-ended handles limit u v run progress.LengthMet = Some (limit_met (codes "length ") limit)
-
--- The trace of the leftmost reduction of the quotient where that ends within both limits; else the limit
--- that it meets.
-unfoldable pub compared : ℕ → ℕ → List Letter → List Letter → Option Answer
-compared handles limit u v =
-    let run = run_after (quotient u v) handles limit handles in ended handles limit u v run run.progress
 
 -- `compare H L` on what its input has.
 abbrev pub compared_words : ℕ → ℕ → Result (List Letter × List Letter) Fault → Option Answer
@@ -104,14 +60,14 @@ compared_words handles limit (Ok (u, v)) = compared handles limit u v
 
 -- A cause of refusal, as it is written.
 abbrev pub why_word : Why → List ℕ
-why_word Form = codes "form"
-why_word Header = codes "header"
-why_word Step = codes "step"
-why_word Long = codes "long"
-why_word Witness = codes "witness"
-why_word Sign = codes "sign"
-why_word Truncated = codes "truncated"
-why_word Extra = codes "extra"
+why_word causes.Form = codes "form"
+why_word causes.Header = codes "header"
+why_word causes.Step = codes "step"
+why_word causes.Long = codes "long"
+why_word causes.Witness = codes "witness"
+why_word causes.Sign = codes "sign"
+why_word causes.Truncated = codes "truncated"
+why_word causes.Extra = codes "extra"
 
 -- The line of an accepted file, and that of a refused one: `refused 4 step`.
 abbrev pub accepted_text : Verdict → List ℕ
@@ -124,6 +80,38 @@ refused_text k why = line ((codes "refused " ++ decimal k) ++ (32 ∷ why_word w
 abbrev pub checked : Result Claim (ℕ × Why) → Answer
 checked (Ok claim) = answer Done (accepted_text claim.verdict)
 checked (Err (k, why)) = answer Refused (refused_text k why)
+
+-- ---- normal and same ----
+
+-- The answer is the normal form of a word on so many strands. There is one (`IsFormOf-equivalent` of
+-- `garside_form`).
+pub record IsNormalised (strands : ℕ) (w : List Letter) (a : Answer) : Type 0 where
+  pub form : Form
+  pub on : form.strands ≡ strands
+  pub normal : IsFormOf form w
+  pub is : a ≡ answer Done (normal_text form)
+
+-- `normal N` on what its input has.
+abbrev pub IsNormalOf : ℕ → Result (List Letter) Fault → Answer → Type 0
+IsNormalOf strands (Err fault) a = a ≡ bad_input fault
+IsNormalOf strands (Ok w) a = IsNormalised strands w a
+
+-- The lines of `same`.
+abbrev pub same_text : List ℕ
+same_text = line (codes "same")
+
+abbrev pub different_text : List ℕ
+different_text = line (codes "different")
+
+-- The answer says whether two words are equivalent on so many strands.
+pub data IsDecided (strands : ℕ) (u v : List Letter) (a : Answer) : Type 0 where
+  are_same : EquivalentOn strands u v → a ≡ answer Done same_text → IsDecided strands u v a
+  are_different : (EquivalentOn strands u v → ⊥) → a ≡ answer Done different_text → IsDecided strands u v a
+
+-- `same N` on what its input has.
+abbrev pub IsSameOf : ℕ → Result (List Letter × List Letter) Fault → Answer → Type 0
+IsSameOf strands (Err fault) a = a ≡ bad_input fault
+IsSameOf strands (Ok (u, v)) a = IsDecided strands u v a
 
 -- ---- act ----
 
@@ -159,47 +147,40 @@ table_row exponent row = answer Done (row_line (row_of (product_rows (2 ^ expone
 abbrev pub benched : Pairs → ℕ → ℕ → Answer
 benched pairs count seed = answer Done (tally_text count (tallied pairs count seed none_counted))
 
+-- ---- session ----
+
+-- The answers to the lines of a session, and the limit of its input where that is met.
+abbrev pub conversed : List ℕ → Answer
+conversed input = answer (session_answer input).status (session_answer input).text
+
 -- ---- The program ----
 
--- A command on an input that isn't too long.
-abbrev pub out_of_short : Command → List ℕ → Option Answer
-out_of_short (Compare handles limit) input = compared_words handles limit (two_words (MAX_INDEX + 1) input)
-out_of_short Check input = Some (checked (checked_of input))
-out_of_short (Act strands index limit) input = Some (acted_word index limit (one_word strands input))
-out_of_short (Laver exponent) input = Some (whole_table exponent)
-out_of_short (Row exponent row) input = Some (table_row exponent row)
-out_of_short (Bench pairs count seed) input = Some (benched pairs count seed)
+-- The answer of a command on an input that isn't too long.
+abbrev pub AnswersShort : Command → List ℕ → Answer → Type 0
+AnswersShort (Compare handles limit) input a = compared_words handles limit (two_words (MAX_INDEX + 1) input) ≡ Some a
+AnswersShort (Terms handles limit) input a = AreCompared handles limit input a
+AnswersShort Check input a = checked (checked_of input) ≡ a
+AnswersShort (Normal strands) input a = IsNormalOf strands (one_word strands input) a
+AnswersShort (Same strands) input a = IsSameOf strands (two_words strands input) a
+AnswersShort (Act strands index limit) input a = acted_word index limit (one_word strands input) ≡ a
+AnswersShort (Eval limit) input a = IsEvaluated limit input a
+AnswersShort (Laver exponent) input a = whole_table exponent ≡ a
+AnswersShort (Row exponent row) input a = table_row exponent row ≡ a
+AnswersShort Session input a = conversed input ≡ a
+AnswersShort (Bench pairs count seed) input a = benched pairs count seed ≡ a
 
--- A command on any input. One that reads none has no limit on it.
-unfoldable pub out_of : Command → List ℕ → Option Answer
-out_of command input =
-    if reads_input command && nat_lt MAX_INPUT (length input)
-    then Some (limit_met (codes "input ") MAX_INPUT)
-    else out_of_short command input
+-- The answer of a command on any input. One that reads none has no limit on it, and a session names its limit
+-- behind its answers.
+pub data Answers (command : Command) (input : List ℕ) (a : Answer) : Type 0 where
+  past_limit : reads_first command ≡ true → MAX_INPUT < length input → limit_met (codes "input ") MAX_INPUT ≡ a
+      → Answers command input a
+  in_limit : (reads_first command ≡ true → length input ≤ MAX_INPUT) → AnswersShort command input a
+      → Answers command input a
 
-abbrev pub out_of_words : Option Command → List ℕ → Option Answer
-out_of_words None input = Some usage
-out_of_words (Some command) input = out_of command input
+abbrev pub AnswersWords : Option Command → List ℕ → Answer → Type 0
+AnswersWords None input a = usage ≡ a
+AnswersWords (Some command) input a = Answers command input a
 
--- The program on the words of its command line, after its name, and on its input.
-abbrev pub out : List (List ℕ) → List ℕ → Option Answer
-out words input = out_of_words (command_of words) input
-
--- ---- What a sink was told ----
-
--- With this status a sink has taken this: a front of the text after a fault of the sink, nothing where
--- the input wasn't read or memory ran out, and else, with the answer's own status, its text.
-abbrev pub Told : Answer → Status → Option (List ℕ) → Option (List ℕ) → Type 0
-Told a Done old new = (a.status ≡ Done) × (new ≡ append_known old a.text)
-Told a Refused old new = (a.status ≡ Refused) × (new ≡ append_known old a.text)
-Told a Words old new = (a.status ≡ Words) × (new ≡ append_known old a.text)
-Told a Input old new = (a.status ≡ Input) × (new ≡ append_known old a.text)
-Told a Limit old new = (a.status ≡ Limit) × (new ≡ append_known old a.text)
-Told a ReadFault old new = new ≡ old
-Told a WriteFault old new = PutsFront old new a.text
-Told a Memory old new = new ≡ old
-
--- The same of an answer that has to be there.
-abbrev pub IsTold : Option Answer → Status → Option (List ℕ) → Option (List ℕ) → Type 0
-IsTold None s old new = ⊥
-IsTold (Some a) s old new = Told a s old new
+-- The answer of the program to the words of its command line, after its name, and to its input.
+abbrev pub IsAnswer : List (List ℕ) → List ℕ → Answer → Type 0
+IsAnswer words input a = AnswersWords (command_of words) input a

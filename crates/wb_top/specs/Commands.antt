@@ -3,8 +3,10 @@
 --   number_of low high word   the number of a command word, if it is within these bounds
 --   command_of words          the command, if the words are one
 --   reads_input command       whether it has an input
+--   reads_first command       whether that is read to its end before anything is answered
 --   IsBounded command         its numbers are within their bounds
 use Rattle.std.specs.Prelude.{ℕ, ◌-◌, ◌^◌, ◌≤◌, ◌==◌, ◌&&◌, not, nat_lt, Bool, true, false, if◌then◌else◌, List, [], ◌∷◌, length, codes, Option, Some, None}
+use Rattle.std.specs.Option.{option_map}
 use Rattle.std.specs.Str.{bytes_eq}
 use Rattle.wb_base.specs.Numbers.{number_at}
 use Rattle.handle_reduce.specs.declared.TheConstants.{MAX_BOUND}
@@ -13,7 +15,7 @@ use Rattle.wb_top.specs.declared.TheConstants.{MAX_STRANDS, MAX_IMAGE, MAX_PRINT
 use Rattle.wb_top.specs.Benching.{IsBoundedPairs}
 use Rattle.wb_top.specs.declared.bench.Pairs.{Pairs}
 use Rattle.wb_top.specs.declared.command.Command.{Command}
-use Rattle.wb_top.specs.declared.command.Command.TheVariants.{Compare, Check, Act, Laver, Row, Bench}
+use Rattle.wb_top.specs.declared.command.Command.TheVariants.{Compare, Terms, Check, Normal, Same, Act, Eval, Laver, Row, Session, Bench}
 
 -- A number that is the whole word, and within these bounds.
 abbrev pub whole_number : ℕ → ℕ → ℕ → Option (ℕ × ℕ) → Option ℕ
@@ -25,20 +27,40 @@ whole_number low high size (Some (value, digits)) =
 abbrev pub number_of : ℕ → ℕ → List ℕ → Option ℕ
 number_of low high word = whole_number low high (length word) (number_at word)
 
--- `compare` with the most reductions, and the most letters.
-abbrev pub compare_by : Option ℕ → Option ℕ → Option Command
-compare_by (Some handles) (Some limit) = Some (Compare handles limit)
-compare_by (Some handles) None = None
-compare_by None limit = None
+-- The one number of a command, within these bounds.
+abbrev pub one_number : ℕ → ℕ → List (List ℕ) → Option ℕ
+one_number low high (word ∷ []) = number_of low high word
+one_number low high other = None
 
+-- Its two numbers, both within these bounds.
+abbrev pub both : Option ℕ → Option ℕ → Option (ℕ × ℕ)
+both (Some first) (Some second) = Some (first, second)
+both (Some first) None = None
+both None second = None
+
+abbrev pub two_numbers : ℕ → ℕ → List (List ℕ) → Option (ℕ × ℕ)
+two_numbers low high (first ∷ (second ∷ [])) = both (number_of low high first) (number_of low high second)
+two_numbers low high other = None
+
+-- `compare` with the most reductions, and the most letters.
 abbrev pub compare_of : List (List ℕ) → Option Command
-compare_of (handles ∷ (limit ∷ [])) = compare_by (number_of 0 MAX_BOUND handles) (number_of 0 MAX_BOUND limit)
-compare_of other = None
+compare_of numbers = option_map (λ (n : ℕ × ℕ). Compare n.0 n.1) (two_numbers 0 MAX_BOUND numbers)
+
+-- `terms` with the same.
+abbrev pub terms_of : List (List ℕ) → Option Command
+terms_of numbers = option_map (λ (n : ℕ × ℕ). Terms n.0 n.1) (two_numbers 0 MAX_BOUND numbers)
 
 -- `check`, which has no numbers.
 abbrev pub check_of : List (List ℕ) → Option Command
 check_of [] = Some Check
 check_of (word ∷ rest) = None
+
+-- `normal` and `same` with the number of strands.
+abbrev pub normal_of : List (List ℕ) → Option Command
+normal_of numbers = option_map (λ strands. Normal strands) (one_number 2 MAX_STRANDS numbers)
+
+abbrev pub same_of : List (List ℕ) → Option Command
+same_of numbers = option_map (λ strands. Same strands) (one_number 2 MAX_STRANDS numbers)
 
 -- `act` with the number of strands, the index of a generator, and the most generators of an image.
 abbrev pub act_by : ℕ → Option ℕ → Option ℕ → Option Command
@@ -54,14 +76,13 @@ abbrev pub act_of : List (List ℕ) → Option Command
 act_of (strands ∷ (index ∷ (limit ∷ []))) = act_on (number_of 2 MAX_STRANDS strands) index limit
 act_of other = None
 
--- `laver` with the exponent of a table's size.
-abbrev pub laver_by : Option ℕ → Option Command
-laver_by (Some exponent) = Some (Laver exponent)
-laver_by None = None
+-- `eval` with the most letters of a braid word.
+abbrev pub eval_of : List (List ℕ) → Option Command
+eval_of numbers = option_map (λ limit. Eval limit) (one_number 0 MAX_BOUND numbers)
 
+-- `laver` with the exponent of a table's size.
 abbrev pub laver_of : List (List ℕ) → Option Command
-laver_of (exponent ∷ []) = laver_by (number_of 0 MAX_PRINTED exponent)
-laver_of other = None
+laver_of numbers = option_map (λ exponent. Laver exponent) (one_number 0 MAX_PRINTED numbers)
 
 -- `row` with the exponent of a table's size, and a row.
 abbrev pub row_by : ℕ → Option ℕ → Option Command
@@ -75,6 +96,11 @@ row_in (Some exponent) row = row_by exponent (number_of 1 (2 ^ exponent) row)
 abbrev pub row_of_numbers : List (List ℕ) → Option Command
 row_of_numbers (exponent ∷ (row ∷ [])) = row_in (number_of 0 MAX_EXPONENT exponent) row
 row_of_numbers other = None
+
+-- `session`, which has no numbers.
+abbrev pub session_of : List (List ℕ) → Option Command
+session_of [] = Some Session
+session_of (word ∷ rest) = None
 
 -- `bench` with the number of strands, the letters of a word, the number of pairs, the first state, and the
 -- limits of each run.
@@ -100,27 +126,57 @@ abbrev pub command_of : List (List ℕ) → Option Command
 command_of [] = None
 command_of (name ∷ numbers) =
     if bytes_eq name (codes "compare") then compare_of numbers
+    else (if bytes_eq name (codes "terms") then terms_of numbers
     else (if bytes_eq name (codes "check") then check_of numbers
+    else (if bytes_eq name (codes "normal") then normal_of numbers
+    else (if bytes_eq name (codes "same") then same_of numbers
     else (if bytes_eq name (codes "act") then act_of numbers
+    else (if bytes_eq name (codes "eval") then eval_of numbers
     else (if bytes_eq name (codes "laver") then laver_of numbers
     else (if bytes_eq name (codes "row") then row_of_numbers numbers
-    else (if bytes_eq name (codes "bench") then bench_of numbers else None)))))
+    else (if bytes_eq name (codes "session") then session_of numbers
+    else (if bytes_eq name (codes "bench") then bench_of numbers else None))))))))))
 
 -- A command that has no input reads nothing.
 abbrev pub reads_input : Command → Bool
 reads_input (Compare handles limit) = true
+reads_input (Terms handles limit) = true
 reads_input Check = true
+reads_input (Normal strands) = true
+reads_input (Same strands) = true
 reads_input (Act strands index limit) = true
+reads_input (Eval limit) = true
 reads_input (Laver exponent) = false
 reads_input (Row exponent row) = false
+reads_input Session = true
 reads_input (Bench pairs count seed) = false
+
+-- Whether it has an input which is read to its end before anything is answered. A session answers its lines
+-- one by one.
+abbrev pub reads_first : Command → Bool
+reads_first (Compare handles limit) = true
+reads_first (Terms handles limit) = true
+reads_first Check = true
+reads_first (Normal strands) = true
+reads_first (Same strands) = true
+reads_first (Act strands index limit) = true
+reads_first (Eval limit) = true
+reads_first (Laver exponent) = false
+reads_first (Row exponent row) = false
+reads_first Session = false
+reads_first (Bench pairs count seed) = false
 
 -- The numbers of a command are within their bounds.
 abbrev pub IsBounded : Command → Type 0
 IsBounded (Compare handles limit) = (handles ≤ MAX_BOUND) × (limit ≤ MAX_BOUND)
+IsBounded (Terms handles limit) = (handles ≤ MAX_BOUND) × (limit ≤ MAX_BOUND)
 IsBounded Check = Unit {0}
+IsBounded (Normal strands) = (2 ≤ strands) × (strands ≤ MAX_STRANDS)
+IsBounded (Same strands) = (2 ≤ strands) × (strands ≤ MAX_STRANDS)
 IsBounded (Act strands index limit) =
     (strands ≤ MAX_STRANDS) × (1 ≤ index) × (index ≤ strands) × (1 ≤ limit) × (limit ≤ MAX_IMAGE)
+IsBounded (Eval limit) = limit ≤ MAX_BOUND
 IsBounded (Laver exponent) = exponent ≤ MAX_PRINTED
 IsBounded (Row exponent row) = (exponent ≤ MAX_EXPONENT) × (1 ≤ row) × (row ≤ 2 ^ exponent)
+IsBounded Session = Unit {0}
 IsBounded (Bench pairs count seed) = IsBoundedPairs pairs × (count ≤ MAX_COUNT)

@@ -16,7 +16,7 @@ use Rattle.braid_word.specs.Notation.{word_of}
 use Rattle.braid_word.specs.declared.reader.WordErr.{WordErr}
 use Rattle.braid_word.specs.declared.reader.WordErr.TheVariants as word_errors
 use Rattle.wb_top.specs.declared.input.Fault.{Fault}
-use Rattle.wb_top.specs.declared.input.Fault.TheVariants.{Lines, Letters, Index, Long, Strands}
+use Rattle.wb_top.specs.declared.input.Fault.TheVariants.{Lines, Letters, Index, Long, Strands, Term, Deep, Many, Twice, Unknown}
 
 -- ---- One line ----
 
@@ -93,3 +93,8 @@ fault_text (Letters k place) = numbered_fault k (codes " letter ") place
 fault_text (Index k place) = numbered_fault k (codes " index ") place
 fault_text (Long k count) = numbered_fault k (codes " long ") count
 fault_text (Strands k place) = numbered_fault k (codes " strands ") place
+fault_text (Term k place) = numbered_fault k (codes " term ") place
+fault_text (Deep k height) = numbered_fault k (codes " deep ") height
+fault_text (Many k products) = numbered_fault k (codes " many ") products
+fault_text (Twice k place) = numbered_fault k (codes " twice ") place
+fault_text (Unknown k place) = numbered_fault k (codes " unknown ") place

@@ -3,6 +3,9 @@ pub mod Benching
 pub mod Commands
 pub mod Inputs
 pub mod Reading
+pub mod Answer
+pub mod Reductions
+pub mod TermAnswers
 pub mod Answers
 pub mod Outcomes
 pub mod Promises

@@ -1,33 +1,46 @@
 -- What the text of a command that is done says of its input.
 --
 --   HasVerdict input text          it is an accepted trace of the two words of the input
+--   HasTermVerdict input text      it is a valid trace of the braids of the two terms of the input
 --   IsChecked input text           the input is an accepted trace, and the text its verdict
 --   HasRefusal input text          the input isn't accepted, and the text its first refusal
+--   HasNormalForm N input text     it is the normal form of the word of the input
+--   HasDecision N input text       it says whether the two words of the input are equivalent
 --   HasImage N I L input text      it is the image of a generator under the word of the input
+--   HasBraid L input text          it is the braid word of the term of the input
 --   HasTable n text                it is the Laver table of size 2^n
 --   HasRow n p text                it is row p of that table
 --   Says command input text        what the text of a command says
-use Rattle.std.specs.Prelude.{◌≡◌, ◌↔◌, ℕ, ◌+◌, ◌≤◌, length, false, List, [], ◌∷◌, Ok}
-use Rattle.wb_base.specs.Lines.{line}
+use Rattle.std.specs.Prelude.{◌≡◌, ◌↔◌, ℕ, ◌+◌, ◌≤◌, ◌⊎◌, length, false, List, [], ◌∷◌, Some, None, Ok}
+use Rattle.wb_base.specs.Lines.{lines_of, line}
 use Rattle.braid_word.specs.Words.{Letter, IsOn}
+use Rattle.braid_word.specs.Notation.{word_text}
+use Rattle.ld_term.specs.Terms.{Term}
+use Rattle.term_graph.specs.TermLists.{term_at}
+use Rattle.term_graph.specs.TermFiles.{IsTermFile}
+use Rattle.term_graph.specs.StrictTexts.{strict_text}
+use Rattle.term_eval.specs.Braids.{braid}
 use Rattle.braid_word.specs.Equivalence.{EquivalentOn}
 use Rattle.braid_word.specs.declared.TheConstants.{MAX_INDEX}
+use Rattle.garside_form.specs.NormalForms.{Form, IsFormOf}
+use Rattle.garside_form.specs.NormalText.{normal_text}
 use Rattle.free_word.specs.FreeWords.{gen}
 use Rattle.free_word.specs.FreeText.{free_text}
 use Rattle.artin_laws.specs.Action.{act, ImagesFit}
 use Rattle.laver_table.specs.Table.{row_of, IsLaver}
 use Rattle.laver_table.specs.TableText.{row_line, table_text}
 use Rattle.trace_format.specs.declared.verdict.Verdict.TheVariants.{Equal}
-use Rattle.trace_format.specs.TraceText.{Trace}
+use Rattle.trace_format.specs.TraceText.{Trace, term_trace_text}
 use Rattle.trace_check.specs.Accepted.{IsAccepted, IsValid}
 use Rattle.trace_check.specs.FirstRefusal.{IsFirstRefusal}
 use Rattle.trace_check.specs.declared.checked.Why.{Why}
 use Rattle.wb_top.specs.declared.TheConstants.{MAX_INPUT}
 use Rattle.wb_top.specs.declared.command.Command.{Command}
-use Rattle.wb_top.specs.declared.command.Command.TheVariants.{Compare, Check, Act, Laver, Row, Bench}
+use Rattle.wb_top.specs.declared.command.Command.TheVariants.{Compare, Terms, Check, Normal, Same, Act, Eval, Laver, Row, Session, Bench}
+use Rattle.session_run.specs.Conversation.{answers}
 use Rattle.wb_top.specs.Bench.{none_counted, tallied, tally_text}
 use Rattle.wb_top.specs.Inputs.{one_word, two_words}
-use Rattle.wb_top.specs.Answers.{accepted_text, refused_text}
+use Rattle.wb_top.specs.Answers.{accepted_text, refused_text, same_text, different_text}
 
 -- The text is a trace of the two words of the input, would be accepted by `check`, which can read it, and is
 -- valid. Its verdict is equal exactly where the words are equivalent, on any number of strands that both are
@@ -39,6 +52,27 @@ pub record HasVerdict (input text : List ℕ) : Type 0 where
   pub short : length text ≤ MAX_INPUT
   pub valid : IsValid trace
   pub equal : (n : ℕ) → IsOn n trace.left → IsOn n trace.right → (trace.verdict ≡ Equal) ↔ EquivalentOn n trace.left trace.right
+
+-- The input is a term file of two terms, and the text their trace: behind the strict texts of the terms it has
+-- the steps, the verdict and the witness of a valid trace of their braid words. Its verdict is equal exactly
+-- where these are equivalent.
+pub record HasTermVerdict (input text : List ℕ) : Type 0 where
+  pub made : List Term
+  pub first : ℕ
+  pub second : ℕ
+  pub file : IsTermFile 2 (lines_of input) made first (Some second)
+  pub trace : Trace
+  pub left : trace.left ≡ braid (term_at made first)
+  pub right : trace.right ≡ braid (term_at made second)
+  pub valid : IsValid trace
+  pub equal : (n : ℕ) → IsOn n trace.left → IsOn n trace.right → (trace.verdict ≡ Equal) ↔ EquivalentOn n trace.left trace.right
+  pub is : text ≡ term_trace_text (record {
+    left = strict_text (term_at made first);
+    right = strict_text (term_at made second);
+    steps = trace.steps;
+    verdict = trace.verdict;
+    witness = trace.witness;
+  })
 
 -- The input is an accepted trace, which is valid, and the text says its verdict.
 pub record IsChecked (input text : List ℕ) : Type 0 where
@@ -55,6 +89,28 @@ pub record HasRefusal (input text : List ℕ) : Type 0 where
   pub none : (t : Trace) → IsAccepted input t → ⊥
   pub is : text ≡ refused_text line why
 
+-- The input is a word on so many strands, and the text its normal form there, of which there is one.
+pub record HasNormalForm (strands : ℕ) (input text : List ℕ) : Type 0 where
+  pub word : List Letter
+  pub read : one_word strands input ≡ Ok word
+  pub on : IsOn strands word
+  pub form : Form
+  pub is_on : form.strands ≡ strands
+  pub normal : IsFormOf form word
+  pub only : (other : Form) → other.strands ≡ strands → IsFormOf other word → other ≡ form
+  pub is : text ≡ normal_text form
+
+-- The input is two words on so many strands, and the text says that they are equivalent there exactly where
+-- they are. Where `compare` has a verdict on this input it is equal exactly where the text says so.
+pub record HasDecision (strands : ℕ) (input text : List ℕ) : Type 0 where
+  pub left : List Letter
+  pub right : List Letter
+  pub read : two_words strands input ≡ Ok (left, right)
+  pub on : IsOn strands left × IsOn strands right
+  pub either : (text ≡ same_text) ⊎ (text ≡ different_text)
+  pub same : (text ≡ same_text) ↔ EquivalentOn strands left right
+  pub agrees : (trace : List ℕ) (verdict : HasVerdict input trace) → (text ≡ same_text) ↔ (verdict.trace.verdict ≡ Equal)
+
 -- The input is a word on so many strands, and the text the image of a generator under it; no image after a
 -- suffix of the word is longer than it may be.
 pub record HasImage (strands index limit : ℕ) (input text : List ℕ) : Type 0 where
@@ -62,6 +118,16 @@ pub record HasImage (strands index limit : ℕ) (input text : List ℕ) : Type 0
   pub read : one_word strands input ≡ Ok word
   pub fits : ImagesFit limit word (gen index false ∷ [])
   pub is : text ≡ line (free_text (act word (gen index false ∷ [])))
+
+-- The input is a term file of one term, and the text its braid word, which has no more letters than it may
+-- have, and no index above 255.
+pub record HasBraid (limit : ℕ) (input text : List ℕ) : Type 0 where
+  pub made : List Term
+  pub first : ℕ
+  pub file : IsTermFile 1 (lines_of input) made first None
+  pub short : length (braid (term_at made first)) ≤ limit
+  pub on : IsOn (MAX_INDEX + 1) (braid (term_at made first))
+  pub is : text ≡ line (word_text (braid (term_at made first)))
 
 -- The text is the Laver table of size 2^n, of which there is one.
 pub record HasTable (exponent : ℕ) (text : List ℕ) : Type 0 where
@@ -80,8 +146,13 @@ pub record HasRow (exponent row : ℕ) (text : List ℕ) : Type 0 where
 -- What the text of a command says of the input, where the command is done.
 abbrev pub Says : Command → List ℕ → List ℕ → Type 0
 Says (Compare handles limit) input text = HasVerdict input text
+Says (Terms handles limit) input text = HasTermVerdict input text
 Says Check input text = IsChecked input text
+Says (Normal strands) input text = HasNormalForm strands input text
+Says (Same strands) input text = HasDecision strands input text
 Says (Act strands index limit) input text = HasImage strands index limit input text
+Says (Eval limit) input text = HasBraid limit input text
 Says (Laver exponent) input text = HasTable exponent text
 Says (Row exponent row) input text = HasRow exponent row text
+Says Session input text = text ≡ answers [] (lines_of input)
 Says (Bench pairs count seed) input text = text ≡ tally_text count (tallied pairs count seed none_counted)

@@ -1,5 +1,5 @@
 ghost use Rattle.std.specs.Prelude.{◌≡◌, ◌-◌, ◌^◌, ◌≤◌, map, string_bytes, IfSome};
-ghost use Rattle.wb_top.specs.Commands.{number_of, compare_of, check_of, act_of, laver_of, row_of_numbers, pairs_by, bench_of, command_of, reads_input, IsBounded};
+ghost use Rattle.wb_top.specs.Commands.{number_of, one_number, two_numbers, compare_of, terms_of, check_of, normal_of, same_of, act_of, eval_of, laver_of, row_of_numbers, session_of, pairs_by, bench_of, command_of, reads_first, IsBounded};
 ghost use Rattle.wb_top.specs.Benching.{IsBoundedPairs};
 
 use crate::bench::Pairs;
@@ -16,13 +16,30 @@ pub enum Command {
         handles: u32,
         limit: u32,
     },
+    /// Compares the braids of two terms, within the same limits.
+    Terms {
+        handles: u32,
+        limit: u32,
+    },
     /// Checks a trace file.
     Check,
+    /// Gives the normal form of a word on so many strands.
+    Normal {
+        strands: u32,
+    },
+    /// Tells whether two words are equivalent on so many strands.
+    Same {
+        strands: u32,
+    },
     /// Gives the image of this generator of the free group under a word on so many strands, over images
     /// of at most so many generators.
     Act {
         strands: u32,
         index: u32,
+        limit: u32,
+    },
+    /// Gives the braid word of a term, if it has at most so many letters.
+    Eval {
         limit: u32,
     },
     /// Gives the Laver table of size 2 to this exponent.
@@ -34,6 +51,8 @@ pub enum Command {
         exponent: u32,
         row: u32,
     },
+    /// Answers command lines, one by one.
+    Session,
     /// Counts the runs of so many pairs of words that are made from a state on.
     Bench {
         pairs: Pairs,
@@ -43,13 +62,22 @@ pub enum Command {
 }
 
 impl Command {
-    /// Whether the command has an input. One that hasn't reads nothing.
-    pub fn reads_input(&self) -> bool
-        ensures { result ≡ reads_input self.now }
+    /// Whether the command has an input which is read to its end before anything is answered.
+    pub fn reads_first(&self) -> bool
+        ensures { result ≡ reads_first self.now }
     {
         match self {
-            Command::Compare { .. } | Command::Check | Command::Act { .. } => true,
-            Command::Laver { .. } | Command::Row { .. } | Command::Bench { .. } => false,
+            Command::Compare { .. }
+            | Command::Terms { .. }
+            | Command::Check
+            | Command::Normal { .. }
+            | Command::Same { .. }
+            | Command::Act { .. }
+            | Command::Eval { .. } => true,
+            Command::Laver { .. }
+            | Command::Row { .. }
+            | Command::Session
+            | Command::Bench { .. } => false,
         }
     }
 }
@@ -68,17 +96,48 @@ fn read_within(word: &[u8], low: u32, high: u32) -> Option<u32>
     }
 }
 
+// The one number of a command, within these bounds.
+fn read_one(numbers: &[String], low: u32, high: u32) -> Option<u32>
+    ensures number { result ≡ one_number low high (map string_bytes numbers.now) }
+    ensures low { IfSome result (λ n. low ≤ n) }
+    ensures high { IfSome result (λ n. n ≤ high) }
+{
+    let [word] = numbers else {
+        return None;
+    };
+    read_within(word.as_bytes(), low, high)
+}
+
+// Its two numbers, both within these bounds.
+fn read_two(numbers: &[String], low: u32, high: u32) -> Option<(u32, u32)>
+    ensures numbers { result ≡ two_numbers low high (map string_bytes numbers.now) }
+    ensures low { IfSome result (λ n. (low ≤ n.0) × (low ≤ n.1)) }
+    ensures high { IfSome result (λ n. (n.0 ≤ high) × (n.1 ≤ high)) }
+{
+    let [first, second] = numbers else {
+        return None;
+    };
+    let first = read_within(first.as_bytes(), low, high)?;
+    let second = read_within(second.as_bytes(), low, high)?;
+    Some((first, second))
+}
+
 // The numbers of `compare`.
 fn read_compare(numbers: &[String]) -> Option<Command>
     ensures command { result ≡ compare_of (map string_bytes numbers.now) }
     ensures bounded { IfSome result IsBounded }
 {
-    let [handles, limit] = numbers else {
-        return None;
-    };
-    let handles = read_within(handles.as_bytes(), 0, MAX_BOUND)?;
-    let limit = read_within(limit.as_bytes(), 0, MAX_BOUND)?;
+    let (handles, limit) = read_two(numbers, 0, MAX_BOUND)?;
     Some(Command::Compare { handles, limit })
+}
+
+// The numbers of `terms`.
+fn read_terms(numbers: &[String]) -> Option<Command>
+    ensures command { result ≡ terms_of (map string_bytes numbers.now) }
+    ensures bounded { IfSome result IsBounded }
+{
+    let (handles, limit) = read_two(numbers, 0, MAX_BOUND)?;
+    Some(Command::Terms { handles, limit })
 }
 
 // The numbers of `check`, which are none.
@@ -91,6 +150,24 @@ fn read_check(numbers: &[String]) -> Option<Command>
     } else {
         None
     }
+}
+
+// The number of `normal`.
+fn read_normal(numbers: &[String]) -> Option<Command>
+    ensures command { result ≡ normal_of (map string_bytes numbers.now) }
+    ensures bounded { IfSome result IsBounded }
+{
+    let strands = read_one(numbers, 2, MAX_STRANDS)?;
+    Some(Command::Normal { strands })
+}
+
+// The number of `same`.
+fn read_same(numbers: &[String]) -> Option<Command>
+    ensures command { result ≡ same_of (map string_bytes numbers.now) }
+    ensures bounded { IfSome result IsBounded }
+{
+    let strands = read_one(numbers, 2, MAX_STRANDS)?;
+    Some(Command::Same { strands })
 }
 
 // The numbers of `act`.
@@ -111,15 +188,21 @@ fn read_act(numbers: &[String]) -> Option<Command>
     })
 }
 
+// The number of `eval`.
+fn read_eval(numbers: &[String]) -> Option<Command>
+    ensures command { result ≡ eval_of (map string_bytes numbers.now) }
+    ensures bounded { IfSome result IsBounded }
+{
+    let limit = read_one(numbers, 0, MAX_BOUND)?;
+    Some(Command::Eval { limit })
+}
+
 // The number of `laver`.
 fn read_laver(numbers: &[String]) -> Option<Command>
     ensures command { result ≡ laver_of (map string_bytes numbers.now) }
     ensures bounded { IfSome result IsBounded }
 {
-    let [exponent] = numbers else {
-        return None;
-    };
-    let exponent = read_within(exponent.as_bytes(), 0, MAX_PRINTED)?;
+    let exponent = read_one(numbers, 0, MAX_PRINTED)?;
     Some(Command::Laver { exponent })
 }
 
@@ -134,6 +217,18 @@ fn read_row(numbers: &[String]) -> Option<Command>
     let exponent = read_within(exponent.as_bytes(), 0, MAX_EXPONENT)?;
     let row = read_within(row.as_bytes(), 1, 1 << exponent)?;
     Some(Command::Row { exponent, row })
+}
+
+// The numbers of `session`, which are none.
+fn read_session(numbers: &[String]) -> Option<Command>
+    ensures command { result ≡ session_of (map string_bytes numbers.now) }
+    ensures bounded { IfSome result IsBounded }
+{
+    if numbers.is_empty() {
+        Some(Command::Session)
+    } else {
+        None
+    }
 }
 
 // The number of a command word, if it is one.
@@ -186,14 +281,24 @@ pub fn read_command(words: &[String]) -> Option<Command>
     };
     if name.as_str() == "compare" {
         read_compare(numbers)
+    } else if name.as_str() == "terms" {
+        read_terms(numbers)
     } else if name.as_str() == "check" {
         read_check(numbers)
+    } else if name.as_str() == "normal" {
+        read_normal(numbers)
+    } else if name.as_str() == "same" {
+        read_same(numbers)
     } else if name.as_str() == "act" {
         read_act(numbers)
+    } else if name.as_str() == "eval" {
+        read_eval(numbers)
     } else if name.as_str() == "laver" {
         read_laver(numbers)
     } else if name.as_str() == "row" {
         read_row(numbers)
+    } else if name.as_str() == "session" {
+        read_session(numbers)
     } else if name.as_str() == "bench" {
         read_bench(numbers)
     } else {

@@ -23,6 +23,16 @@ pub enum Fault {
     /// The letter at this place of the word, counted from 1, is the first whose index isn't below the
     /// number of strands.
     Strands(u64, u64),
+    /// The line leaves the grammar of terms at this byte, counted from 1.
+    Term(u64, u64),
+    /// The term has so great a height, which is too great.
+    Deep(u64, u64),
+    /// The term has so many products, which are too many.
+    Many(u64, u64),
+    /// A name that is defined again begins at this byte.
+    Twice(u64, u64),
+    /// A name that no earlier line defines begins at this byte, and is the first such.
+    Unknown(u64, u64),
 }
 
 impl Fault {
@@ -37,6 +47,11 @@ impl Fault {
             Fault::Index(line, place) => put_fault(sink, line, b" index ", place),
             Fault::Long(line, count) => put_fault(sink, line, b" long ", count),
             Fault::Strands(line, place) => put_fault(sink, line, b" strands ", place),
+            Fault::Term(line, place) => put_fault(sink, line, b" term ", place),
+            Fault::Deep(line, height) => put_fault(sink, line, b" deep ", height),
+            Fault::Many(line, products) => put_fault(sink, line, b" many ", products),
+            Fault::Twice(line, place) => put_fault(sink, line, b" twice ", place),
+            Fault::Unknown(line, place) => put_fault(sink, line, b" unknown ", place),
         }
     }
 }

@@ -7,19 +7,23 @@ mod checking;
 mod command;
 mod compare;
 mod input;
+mod laws;
+mod normal;
 mod outcome;
 mod program;
 mod tables;
+mod terms;
 #[cfg(test)]
 mod tests;
 
 pub use command::{Command, read_command};
+pub use laws::law_one_answer;
 pub use program::run;
 
 /// The most bytes of input.
-pub const MAX_INPUT: usize = 8_388_608;
+pub const MAX_INPUT: usize = session_run::MAX_INPUT;
 
-/// The most strands of `act`.
+/// The most strands of `normal`, `same` and `act`.
 pub const MAX_STRANDS: u32 = 64;
 
 /// The most generators that an image may be allowed to have.

@@ -1,21 +1,27 @@
 ghost use Rattle.std.specs.Prelude.{◌≡◌, ◌≢◌, ◌≤◌, ◌∷◌, ◌++◌, codes, ℕ, List};
 ghost use Rattle.wb_base.specs.Lines.{line};
+ghost use Rattle.braid_word.specs.Notation.{word_text};
 ghost use Rattle.free_word.specs.FreeText.{free_text};
 ghost use Rattle.trace_format.specs.TraceText.{verdict_word};
 ghost use Rattle.wb_base.specs.Streams.{HasCause, Puts, Rose};
-ghost use Rattle.wb_top.specs.Answers.{Told, why_word, refused_text};
-ghost use Rattle.wb_top.specs.Outcomes.{answer_of};
+ghost use Rattle.wb_top.specs.Answer.{Told};
+ghost use Rattle.wb_top.specs.Answers.{why_word, refused_text};
+ghost use Rattle.wb_top.specs.TermAnswers.{length_needed};
+ghost use Rattle.wb_top.specs.Outcomes.{answer_of, decided};
 
 use crate::MAX_INPUT;
 use crate::bench::{Tally, put_tally};
 use crate::input::Fault;
 use crate::tables::{RowOf, put_whole};
-use braid_word::Word;
+use braid_word::{Letter, MAX_INDEX, Word, put_word};
 use free_word::{FreeWord, put_free};
+use garside_form::{NormalForm, put_normal};
 use handle_reduce::Reducer;
 use laver_table::Table;
+use ld_term::MAX_HEIGHT;
+use term_graph::MAX_NODES;
 use trace_check::Why;
-use trace_format::{Verdict, put_trace};
+use trace_format::{Verdict, put_term_trace, put_trace};
 use wb_base::{Failed, Sink, Status, give_all, put_line, put_numbered, put_numbered_line};
 
 /// What a command has come to, before it is written.
@@ -33,6 +39,17 @@ pub(crate) enum Outcome {
     LengthMet(u32),
     /// An image has more generators than it may.
     ImageMet(u32),
+    /// A term is higher than may be.
+    HeightMet,
+    /// A term file has more distinct products than may be.
+    NodesMet,
+    /// A braid word has a greater index than may be.
+    IndexMet,
+    /// A braid word may have so many letters, and has that many.
+    LengthNeeded {
+        limit: u32,
+        count: u64,
+    },
     /// Two words were compared.
     Compared {
         left: Word,
@@ -40,12 +57,25 @@ pub(crate) enum Outcome {
         verdict: Verdict,
         reducer: Reducer,
     },
+    /// The braids of two terms with these texts were compared.
+    ComparedTerms {
+        left: Vec<u8>,
+        right: Vec<u8>,
+        verdict: Verdict,
+        reducer: Reducer,
+    },
     /// A trace file of this verdict is accepted.
     Accepted(Verdict),
     /// A trace file is refused at this line for this cause.
     Refused(u64, Why),
+    /// A word has this normal form.
+    Normalised(NormalForm),
+    /// Two words are equivalent, or aren't.
+    Decided(bool),
     /// A generator has this image.
     Acted(FreeWord),
+    /// A term has this braid word.
+    Evaluated(Word),
     /// A Laver table was built.
     WholeTable(Table),
     /// A Laver table was built for one row.
@@ -93,6 +123,13 @@ fn accepted_line(verdict: Verdict) -> &'static [u8]
     }
 }
 
+// The line of `same`, without its LF.
+fn decided_line(same: bool) -> &'static [u8]
+    ensures { line result.now ≡ (decided same).text }
+{
+    if same { b"same" } else { b"different" }
+}
+
 // Gives the line of an image.
 fn put_image<K: Sink>(sink: &mut K, image: &FreeWord) -> Result<(), Failed>
     ensures took { Puts (K.taken sink.old) (K.taken sink.new) result (line (free_text image.now)) }
@@ -100,6 +137,24 @@ fn put_image<K: Sink>(sink: &mut K, image: &FreeWord) -> Result<(), Failed>
 {
     put_free(sink, image)?;
     give_all(sink, b"\n")
+}
+
+// Gives the line of a braid word.
+fn put_braid<K: Sink>(sink: &mut K, word: &[Letter]) -> Result<(), Failed>
+    ensures took { Puts (K.taken sink.old) (K.taken sink.new) result (line (word_text word.now)) }
+    ensures cause { HasCause (K.faults sink.old) (K.faults sink.new) result }
+{
+    put_word(sink, word)?;
+    give_all(sink, b"\n")
+}
+
+// Gives the line that says how many letters a braid word has.
+fn put_needed<K: Sink>(sink: &mut K, limit: u64, count: u64) -> Result<(), Failed>
+    ensures took { Puts (K.taken sink.old) (K.taken sink.new) result (length_needed limit count).text }
+    ensures cause { HasCause (K.faults sink.old) (K.faults sink.new) result }
+{
+    put_numbered(sink, b"limit length ", limit)?;
+    put_numbered_line(sink, b" needs ", count)
 }
 
 impl Outcome {
@@ -113,10 +168,18 @@ impl Outcome {
             Outcome::InputTooLong
             | Outcome::HandlesMet(_)
             | Outcome::LengthMet(_)
-            | Outcome::ImageMet(_) => Status::Limit,
+            | Outcome::ImageMet(_)
+            | Outcome::HeightMet
+            | Outcome::NodesMet
+            | Outcome::IndexMet
+            | Outcome::LengthNeeded { .. } => Status::Limit,
             Outcome::Compared { .. }
+            | Outcome::ComparedTerms { .. }
             | Outcome::Accepted(_)
+            | Outcome::Normalised(_)
+            | Outcome::Decided(_)
             | Outcome::Acted(_)
+            | Outcome::Evaluated(_)
             | Outcome::WholeTable(_)
             | Outcome::TableRow(_)
             | Outcome::Tallied { .. } => Status::Done,
@@ -142,9 +205,16 @@ impl Outcome {
             Outcome::ImageMet(limit) => {
                 put_numbered_line(sink, b"limit image ", u64::from(*limit))
             }
+            Outcome::HeightMet => put_numbered_line(sink, b"limit height ", MAX_HEIGHT),
+            Outcome::NodesMet => put_numbered_line(sink, b"limit nodes ", u64::from(MAX_NODES)),
+            Outcome::IndexMet => put_numbered_line(sink, b"limit index ", u64::from(MAX_INDEX)),
+            Outcome::LengthNeeded { limit, count } => put_needed(sink, u64::from(*limit), *count),
             Outcome::Accepted(verdict) => put_line(sink, accepted_line(*verdict)),
             Outcome::Refused(line, why) => put_refused(sink, *line, *why),
+            Outcome::Normalised(form) => put_normal(sink, form),
+            Outcome::Decided(same) => put_line(sink, decided_line(*same)),
             Outcome::Acted(image) => put_image(sink, image),
+            Outcome::Evaluated(word) => put_braid(sink, word.letters()),
             Outcome::WholeTable(table) => put_whole(sink, table),
             Outcome::TableRow(row) => row.put(sink),
             Outcome::Tallied { count, tally } => put_tally(sink, *count, tally),
@@ -154,6 +224,12 @@ impl Outcome {
                 verdict,
                 reducer,
             } => put_trace(sink, left.letters(), right.letters(), reducer, *verdict),
+            Outcome::ComparedTerms {
+                left,
+                right,
+                verdict,
+                reducer,
+            } => put_term_trace(sink, left, right, reducer, *verdict),
         }
     }
 

@@ -2,8 +2,11 @@ ghost use Rattle.std.specs.Prelude.{◌≡◌, ◌≢◌, ◌+◌, ◌≤◌, �
 ghost use Rattle.std.specs.Option.{option_map};
 ghost use Rattle.std.specs.Io.KnownBytes.{append_known};
 ghost use Rattle.wb_base.specs.Streams.{Rose, Skips};
-ghost use Rattle.wb_top.specs.Commands.{command_of, reads_input, IsBounded};
-ghost use Rattle.wb_top.specs.Answers.{Answer, Told, IsTold, usage, out, out_of, out_of_short};
+ghost use Rattle.session_run.specs.Serving.{HasServed};
+ghost use Rattle.wb_top.specs.Commands.{command_of, reads_input, reads_first, IsBounded};
+ghost use Rattle.wb_top.specs.declared.command.Command.TheVariants.{Session};
+ghost use Rattle.wb_top.specs.Answer.{Answer, Told, IsTold, usage};
+ghost use Rattle.wb_top.specs.Answers.{Answers, AnswersShort, IsAnswer};
 ghost use Rattle.wb_top.specs.Outcomes.{answer_of};
 ghost use Rattle.wb_top.specs.Promises.{HasRefusal, Says};
 ghost use Rattle.wb_top.specs.declared.program.Stop.TheVariants.{Memory};
@@ -14,8 +17,11 @@ use crate::bench::bench;
 use crate::checking::check_input;
 use crate::command::{Command, read_command};
 use crate::compare::compare;
+use crate::normal::{normal_of_input, same_of_input};
 use crate::outcome::Outcome;
 use crate::tables::{build_row, build_table};
+use crate::terms::{compare_terms, eval_input};
+use session_run::serve;
 use std::alloc::{AllocError, Global};
 use wb_base::{ReadErr, Sink, Source, Status, read_all};
 
@@ -38,21 +44,27 @@ impl From<AllocError> for Stop {
 
 // Does a command on an input that isn't too long.
 fn perform_on(alloc: Global, command: Command, input: &[u8]) -> Result<Outcome, Stop>
-    requires { IsBounded command }
-    ensures outcome { IfOk result (λ outcome. out_of_short command input.now ≡ Some (answer_of outcome)) }
+    requires bounded { IsBounded command }
+    requires once { command ≢ Session }
+    ensures outcome { IfOk result (λ outcome. AnswersShort command input.now (answer_of outcome)) }
     ensures known { IfOk result (λ outcome. (answer_of outcome).status ≢ Status.Words) }
     ensures stop { result ≢ Err Stop.ReadFault }
 {
     match command {
         Command::Compare { handles, limit } => Ok(compare(alloc, handles, limit, input)?),
+        Command::Terms { handles, limit } => Ok(compare_terms(alloc, handles, limit, input)?),
         Command::Check => Ok(check_input(alloc, input)?),
+        Command::Normal { strands } => Ok(normal_of_input(alloc, strands, input)?),
+        Command::Same { strands } => Ok(same_of_input(alloc, strands, input)?),
         Command::Act {
             strands,
             index,
             limit,
         } => Ok(act_on_input(alloc, strands, index, limit, input)?),
+        Command::Eval { limit } => Ok(eval_input(alloc, limit, input)?),
         Command::Laver { exponent } => Ok(build_table(alloc, exponent)?),
         Command::Row { exponent, row } => Ok(build_row(alloc, exponent, row)?),
+        Command::Session => unreachable!(),
         Command::Bench { pairs, count, seed } => Ok(bench(alloc, pairs, count, seed)?),
     }
 }
@@ -64,8 +76,8 @@ fn perform_reading<S: Source>(
     source: &mut S,
 ) -> Result<Outcome, Stop>
     requires bounded { IsBounded command }
-    requires reads { reads_input command ≡ true }
-    ensures outcome { IfOk result (λ outcome. IfSome (S.left source.old) (λ input. out_of command input ≡ Some (answer_of outcome))) }
+    requires reads { reads_first command ≡ true }
+    ensures outcome { IfOk result (λ outcome. IfSome (S.left source.old) (λ input. Answers command input (answer_of outcome))) }
     ensures known { IfOk result (λ outcome. (answer_of outcome).status ≢ Status.Words) }
     ensures left { IfOk result (λ _. S.left source.new ≡ option_map (drop (MAX_INPUT + 1)) (S.left source.old)) }
     ensures front { (n : ℕ) × (n ≤ MAX_INPUT + 1) × Skips (S.left source.old) (S.left source.new) n }
@@ -85,7 +97,7 @@ fn perform_reading<S: Source>(
 fn perform_alone(alloc: Global, command: Command) -> Result<Outcome, Stop>
     requires bounded { IsBounded command }
     requires alone { reads_input command ≡ false }
-    ensures outcome { IfOk result (λ outcome. (input : List ℕ) → out_of command input ≡ Some (answer_of outcome)) }
+    ensures outcome { IfOk result (λ outcome. (input : List ℕ) → Answers command input (answer_of outcome)) }
     ensures known { IfOk result (λ outcome. (answer_of outcome).status ≢ Status.Words) }
     ensures stop { result ≢ Err Stop.ReadFault }
 {
@@ -94,17 +106,18 @@ fn perform_alone(alloc: Global, command: Command) -> Result<Outcome, Stop>
 
 // Reads the input of a command, if it has one, and does it.
 fn perform<S: Source>(alloc: Global, command: Command, source: &mut S) -> Result<Outcome, Stop>
-    requires { IsBounded command }
-    ensures outcome { IfOk result (λ outcome. IfSome (S.left source.old) (λ input. out_of command input ≡ Some (answer_of outcome))) }
+    requires bounded { IsBounded command }
+    requires once { command ≢ Session }
+    ensures outcome { IfOk result (λ outcome. IfSome (S.left source.old) (λ input. Answers command input (answer_of outcome))) }
     ensures known { IfOk result (λ outcome. (answer_of outcome).status ≢ Status.Words) }
     ensures left { IfOk result (λ _. reads_input command ≡ true → S.left source.new ≡ option_map (drop (MAX_INPUT + 1)) (S.left source.old)) }
-    ensures alone { reads_input command ≡ false → (source.new ≡ source.old) × (result ≢ Err Stop.ReadFault) × IfOk result (λ outcome. (input : List ℕ) → out_of command input ≡ Some (answer_of outcome)) }
+    ensures alone { reads_input command ≡ false → (source.new ≡ source.old) × (result ≢ Err Stop.ReadFault) × IfOk result (λ outcome. (input : List ℕ) → Answers command input (answer_of outcome)) }
     ensures front { (n : ℕ) × (n ≤ MAX_INPUT + 1) × Skips (S.left source.old) (S.left source.new) n }
     ensures fault { result ≡ Err Stop.ReadFault → Rose (S.faults source.old) (S.faults source.new) }
     ensures later { S.faults source.old ≤ S.faults source.new }
     ensures calls { S.calls source.new ≤ S.calls source.old + (MAX_INPUT + 2) }
 {
-    if command.reads_input() {
+    if command.reads_first() {
         perform_reading(alloc, command, source)
     } else {
         perform_alone(alloc, command)
@@ -114,9 +127,9 @@ fn perform<S: Source>(alloc: Global, command: Command, source: &mut S) -> Result
 /// Does all that the program does: `words` are the words of its command line after its name.
 ///
 /// It reads the input of a command that has one, to its end or to one byte past its limit, and writes the
-/// answer, which is a function of the words and the input. Nothing is written after a fault of the source or for want of
-/// memory; after a fault of the sink a front of the answer was taken. Words that are no command read
-/// nothing, and never end for want of memory.
+/// one answer that the words and the input have. A session answers each line before more is read. Otherwise
+/// nothing is written after a fault of the source or for want of memory; after a fault of the sink a front of
+/// the answer was taken. Words that are no command read nothing, and never end for want of memory.
 pub fn run<S: Source, K: Sink>(
     alloc: Global,
     words: &[String],
@@ -125,11 +138,11 @@ pub fn run<S: Source, K: Sink>(
 ) -> Status
     // What is written, and with which status.
     ensures answer { IfSome (S.left source.old) (λ input.
-        IsTold (out (map string_bytes words.now) input) result (K.taken sink.old) (K.taken sink.new)) }
+        IsTold (IsAnswer (map string_bytes words.now) input) result (K.taken sink.old) (K.taken sink.new)) }
 
     // What a command that is done has written is the answer, and what that says of the input holds.
     ensures says { result ≡ Status.Done → IfSome (S.left source.old) (λ input. IfSome (command_of (map string_bytes words.now)) (λ command.
-        (a : Answer) × (out (map string_bytes words.now) input ≡ Some a) × (K.taken sink.new ≡ append_known (K.taken sink.old) a.text) × Says command input a.text)) }
+        (a : Answer) × IsAnswer (map string_bytes words.now) input a × (K.taken sink.new ≡ append_known (K.taken sink.old) a.text) × Says command input a.text)) }
 
     // What `check` refuses isn't accepted, as any trace, and what was written is its first refusal.
     ensures refused { result ≡ Status.Refused → IfSome (S.left source.old) (λ input.
@@ -146,10 +159,10 @@ pub fn run<S: Source, K: Sink>(
     ensures read_later { S.faults source.old ≤ S.faults source.new }
     ensures write_later { K.faults sink.old ≤ K.faults sink.new }
 
-    // Where the input wasn't read, or memory ran out, the sink is as it was. After any other status but a
-    // fault of the sink no byte waits.
-    ensures nothing { (result ≡ Status.ReadFault) ⊎ (result ≡ Status.Memory) → sink.new ≡ sink.old }
-    ensures passed { result ≢ Status.ReadFault → result ≢ Status.WriteFault → result ≢ Status.Memory → K.waiting sink.new ≡ 0 }
+    // Outside of a session, where the input wasn't read, or memory ran out, the sink is as it was, and after
+    // any other status but a fault of the sink no byte waits. In a session none waits that didn't before.
+    ensures nothing { (result ≡ Status.ReadFault) ⊎ (result ≡ Status.Memory) → command_of (map string_bytes words.now) ≢ Some Session → sink.new ≡ sink.old }
+    ensures passed { command_of (map string_bytes words.now) ≢ Some Session → result ≢ Status.ReadFault → result ≢ Status.WriteFault → result ≢ Status.Memory → K.waiting sink.new ≡ 0 }
     ensures waits { result ≢ Status.WriteFault → K.waiting sink.old ≡ 0 → K.waiting sink.new ≡ 0 }
 
     // With an answer to a command that has an input this was read to its end, or to one byte past its limit.
@@ -160,9 +173,15 @@ pub fn run<S: Source, K: Sink>(
     // A command that has none reads nothing, and its answer and what that says stand also where the source
     // tells nothing.
     ensures alone { IfSome (command_of (map string_bytes words.now)) (λ command. reads_input command ≡ false →
-        (source.new ≡ source.old) × (result ≢ Status.ReadFault) × IsTold (out (map string_bytes words.now) []) result (K.taken sink.old) (K.taken sink.new)) }
+        (source.new ≡ source.old) × (result ≢ Status.ReadFault) × IsTold (IsAnswer (map string_bytes words.now) []) result (K.taken sink.old) (K.taken sink.new)) }
     ensures says_alone { result ≡ Status.Done → IfSome (command_of (map string_bytes words.now)) (λ command. reads_input command ≡ false →
         (text : List ℕ) × Says command [] text × (K.taken sink.new ≡ append_known (K.taken sink.old) text)) }
+
+    // What a session has read and written, with each status.
+    ensures session { command_of (map string_bytes words.now) ≡ Some Session → HasServed
+        (record { left = S.left source.old; reads = S.faults source.old; calls = S.calls source.old; taken = K.taken sink.old; waiting = K.waiting sink.old; writes = K.faults sink.old })
+        (record { left = S.left source.new; reads = S.faults source.new; calls = S.calls source.new; taken = K.taken sink.new; waiting = K.waiting sink.new; writes = K.faults sink.new })
+        result }
 
     // In every case a front of it was taken, no further than that byte, in at most so many calls.
     ensures front { (n : ℕ) × (n ≤ MAX_INPUT + 1) × Skips (S.left source.old) (S.left source.new) n }
@@ -171,6 +190,9 @@ pub fn run<S: Source, K: Sink>(
     let Some(command) = read_command(words) else {
         return Outcome::Usage.write(sink);
     };
+    if let Command::Session = command {
+        return serve(alloc, source, sink);
+    }
     match perform(alloc, command, source) {
         Ok(outcome) => outcome.write(sink),
         Err(Stop::ReadFault) => Status::ReadFault,

@@ -240,6 +240,137 @@ fn checks_a_trace_file_of_any_maker(rt: HostRuntime) -> Result<(), Fail> {
     Ok(())
 }
 
+// The trace of x(xx) and (xx)(xx).
+const TERMS: &[u8] =
+    b"braid-trace 1\nleft-term (x*(x*x))\nright-term ((x*x)*(x*x))\nh 1 3\nh 3 4\nh 2 3\nh 1 2\nverdict equal\nwitness\nend\n";
+
+#[test]
+fn compares_the_braids_of_terms(rt: HostRuntime) -> Result<(), Fail> {
+    let rows: [Row; 6] = [
+        ("terms 9 9", b"x*(x*x)\n(x*x)*(x*x)\n", Status::Done, TERMS),
+        ("terms 9 9", b"a = x*x\nx*a\na*a\n", Status::Done, TERMS),
+        (
+            "terms 9 9",
+            b"x\nx*x\n",
+            Status::Done,
+            b"braid-trace 1\nleft-term x\nright-term (x*x)\nverdict less\nwitness 1\nend\n",
+        ),
+        (
+            "terms 3 9",
+            b"x*(x*x)\n(x*x)*(x*x)\n",
+            Status::Limit,
+            b"limit handles 3\n",
+        ),
+        (
+            "terms 9 5",
+            b"x*(x*x)\n(x*x)*(x*x)\n",
+            Status::Limit,
+            b"limit length 5\n",
+        ),
+        ("terms 9 9", b"x\n", Status::Input, b"input 2 lines\n"),
+    ];
+    Ok(assert_rows(&rt, rt.alloc(), &rows, &[])?)
+}
+
+#[test]
+fn gives_the_braid_of_a_term(rt: HostRuntime) -> Result<(), Fail> {
+    let rows: [Row; 10] = [
+        ("eval 9", b"(x*x)*x\n", Status::Done, b"1 1 -2\n"),
+        ("eval 3", b"a = x*x\n(a*x)", Status::Done, b"1 1 -2\n"),
+        ("eval 9", b"x\n", Status::Done, b"\n"),
+        ("eval 0", b"x\n", Status::Done, b"\n"),
+        (
+            "eval 2",
+            b"(x*x)*x\n",
+            Status::Limit,
+            b"limit length 2 needs 3\n",
+        ),
+        ("eval 9", b"x*x*x\n", Status::Input, b"input 1 term 4\n"),
+        (
+            "eval 9",
+            b"a = (b*x)\na\n",
+            Status::Input,
+            b"input 1 unknown 6\n",
+        ),
+        (
+            "eval 9",
+            b"a = (x*x)\na = x\na\n",
+            Status::Input,
+            b"input 2 twice 1\n",
+        ),
+        ("eval 9", b"", Status::Input, b"input 1 lines\n"),
+        ("eval 100001", b"x\n", Status::Words, USAGE),
+    ];
+    Ok(assert_rows(&rt, rt.alloc(), &rows, &[])?)
+}
+
+#[test]
+fn serves_a_session(rt: HostRuntime) -> Result<(), Fail> {
+    let rows: [Row; 3] = [
+        (
+            "session",
+            b"open a 9 9 | 1 2 | 2 1\nturn a 1\nturn a 1\nwalk\nclose a\nlist",
+            Status::Done,
+            b"opened a\nstate a running 1\nstate a less 2\nbad\nclosed a\njobs 0\n",
+        ),
+        ("session", b"", Status::Done, b""),
+        ("session 1", b"", Status::Words, USAGE),
+    ];
+    Ok(assert_rows(&rt, rt.alloc(), &rows, &[])?)
+}
+
+#[test]
+fn gives_normal_forms(rt: HostRuntime) -> Result<(), Fail> {
+    let rows: [Row; 10] = [
+        ("normal 3", b"1 2 1\n", Status::Done, b"delta 1\n"),
+        (
+            "normal 3",
+            b"-1\n",
+            Status::Done,
+            b"delta -1\nfactor 2 3 1\n",
+        ),
+        (
+            "normal 3",
+            b"1 -2\n",
+            Status::Done,
+            b"delta -1\nfactor 1 3 2\nfactor 3 1 2\n",
+        ),
+        ("normal 3", b"\n", Status::Done, b"delta 0\n"),
+        (
+            "normal 3",
+            b"aba abaa\n",
+            Status::Done,
+            b"delta 2\nfactor 2 1 3\n",
+        ),
+        ("normal 3", b"3\n", Status::Input, b"input 1 strands 1\n"),
+        ("normal 3", b"1 0\n", Status::Input, b"input 1 index 3\n"),
+        ("normal 3", b"1\n\n", Status::Input, b"input 2 lines\n"),
+        ("normal 1", b"\n", Status::Words, USAGE),
+        ("normal 65", b"\n", Status::Words, USAGE),
+    ];
+    Ok(assert_rows(&rt, rt.alloc(), &rows, &[])?)
+}
+
+#[test]
+fn tells_whether_words_are_equivalent(rt: HostRuntime) -> Result<(), Fail> {
+    let rows: [Row; 8] = [
+        (
+            "same 3",
+            b"1 2 1 1 2 1 1\n1 1 2 1 1 2 1\n",
+            Status::Done,
+            b"same\n",
+        ),
+        ("same 3", b"1 2\n2 1\n", Status::Done, b"different\n"),
+        ("same 64", b"1 63\n63 1\n", Status::Done, b"same\n"),
+        ("same 2", b"1 -1\n\n", Status::Done, b"same\n"),
+        ("same 2", b"1\n\n", Status::Done, b"different\n"),
+        ("same 3", b"1\n3\n", Status::Input, b"input 2 strands 1\n"),
+        ("same 3", b"3\nq\n", Status::Input, b"input 1 strands 1\n"),
+        ("same 3 3", b"1\n1\n", Status::Words, USAGE),
+    ];
+    Ok(assert_rows(&rt, rt.alloc(), &rows, &[])?)
+}
+
 #[test]
 fn gives_the_image_of_a_generator(rt: HostRuntime) -> Result<(), Fail> {
     let rows: [Row; 8] = [
