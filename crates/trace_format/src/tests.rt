@@ -155,43 +155,13 @@ fn writes_a_trace_file(rt: HostRuntime) -> Result<(), Fail> {
     Ok(())
 }
 
-// The run of the quotient of the braids of x(xx) and (xx)(xx), which ends with the empty word.
-struct FourSteps;
-
-impl Account for FourSteps {
-    ghost steps = { λ _. (1, 3) ∷ (3, 4) ∷ (2, 3) ∷ (1, 2) ∷ [] };
-
-    ghost current = { λ _. [] };
-
-    fn steps_done(&self) -> u32 {
-        4
-    }
-
-    fn step_at(&self, k: u32) -> (u32, u32) {
-        match k {
-            0 => (1, 3),
-            1 => (3, 4),
-            2 => (2, 3),
-            _ => (1, 2),
-        }
-    }
-
-    fn current_len(&self) -> u32 {
-        0
-    }
-
-    fn current_at(&self, _k: u32) -> Letter {
-        unreachable!();
-    }
-}
-
 #[test]
 fn writes_a_trace_file_of_terms(rt: HostRuntime) -> Result<(), Fail> {
     let mut sink = MemSink::new(rt.alloc(), 160, 7, &[])?;
     let (left, right) = (b"(x*(x*x))", b"((x*x)*(x*x))");
-    put_term_trace(&mut sink, left, right, &FourSteps, Verdict::Equal)?;
+    put_term_trace(&mut sink, left, right, &OneStep, Verdict::Less)?;
     let head = "braid-trace 1\nleft-term (x*(x*x))\nright-term ((x*x)*(x*x))\n";
-    let body = "h 1 3\nh 3 4\nh 2 3\nh 1 2\nverdict equal\nwitness\nend\n";
+    let body = "h 1 3\nverdict less\nwitness -2 1 2\nend\n";
     let want = format!(in rt.alloc(); "{head}{body}")?;
     assert_eq!(rt; sink.bytes(), want.as_bytes());
     Ok(())
