@@ -7,3 +7,5 @@ pub mod TreeLemmas
 pub mod DefinitionLemmas
 pub mod TextLemmas
 pub mod LawLemmas
+pub mod StrictLemmas
+pub mod StrictReadingLemmas

@@ -8,3 +8,4 @@ pub mod Reads
 pub mod Refusals
 pub mod TreeTexts
 pub mod TermTexts
+pub mod StrictTexts

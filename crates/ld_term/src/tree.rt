@@ -1,9 +1,11 @@
-ghost use Rattle.std.specs.Prelude.{◌≡◌, ℕ, ◌≤◌, ◌∷◌, ◌++◌, true, false, List, length, IfOk, IfErr};
+ghost use Rattle.std.specs.Prelude.{◌≡◌, ℕ, ◌≤◌, ◌∷◌, ◌++◌, true, false, List, length, Some, IfOk, IfErr};
+ghost use Rattle.ld_term.specs.Terms.{Term};
 ghost use Rattle.ld_term.specs.Written.{Written, HasNoName};
 ghost use Rattle.ld_term.specs.Tokens.{Token, tokens_of, tokens_from};
 ghost use Rattle.ld_term.specs.Grammar.{atom_tokens, IsTermText};
 ghost use Rattle.ld_term.specs.TreeTexts.{written, StartsAtom, IsBehind, IsAtom};
 ghost use Rattle.ld_term.specs.Refusals.{IsSmall, IsRefused};
+ghost use Rattle.ld_term.specs.StrictTexts.{as_written, strict_term_of, IsStrictRefusal};
 
 use crate::MAX_HEIGHT;
 use crate::shape::measure;
@@ -125,6 +127,10 @@ pub fn read_strict(alloc: Global, bytes: &[u8]) -> Result<Tree, TermErr>
     ensures nameless { IfOk result (λ tree. HasNoName (written tree)) }
     ensures small { IfOk result (λ tree. IsSmall (written tree)) }
     ensures refused { IfErr result (IsRefused (IsTermText true) (tokens_from true 0 bytes.now) (length bytes.now)) }
+
+    // The same by the term whose strict text the bytes are, if there is one.
+    ensures term { IfOk result (λ tree. (t : Term) × (strict_term_of bytes.now ≡ Some t) × (written tree ≡ as_written t)) }
+    ensures cause { IfErr result (IsStrictRefusal (strict_term_of bytes.now)) }
 {
     read_from(alloc, bytes, 0, true)
 }

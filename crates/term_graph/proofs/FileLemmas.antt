@@ -210,3 +210,18 @@ pub IsTermFile-terms
     → terms_at made first second ≡ terms_at again other next
 IsTermFile-terms terms lines made again first other second next file also =
     sym file.last ∙ ap (last_terms []) (AreSound-unique 1 [] _ file.read also.read file.sound also.sound) ∙ also.last
+
+-- and makes one graph
+pub IsTermFile-made
+    : (terms : ℕ) (lines : List (List ℕ)) (made again : List Term) (first other : ℕ)
+    (second next : Option ℕ)
+    → IsTermFile terms lines made first second
+    → IsTermFile terms lines again other next
+    → made ≡ again
+IsTermFile-made terms lines made again first other second next file also =
+    let both : answered made ≡ answered again
+    = sym file.asked
+    ∙ ap (λ read. ask_all (answered (variable ∷ [])) (file_requests [] read))
+    (AreSound-unique 1 [] _ file.read also.read file.sound also.sound)
+    ∙ also.asked in
+    cc

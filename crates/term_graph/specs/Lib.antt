@@ -2,7 +2,8 @@ pub mod TermLists
 pub mod TermCodes
 pub mod Asks
 pub mod NameLists
-pub mod StrictTexts
+pub mod Listings
+pub mod Places
 pub mod Nodes
 pub mod Requests
 pub mod TermFiles

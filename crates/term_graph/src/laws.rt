@@ -1,9 +1,6 @@
 ghost use Rattle.std.specs.Prelude.{◌≡◌, ℕ, ◌<◌, ◌++◌, ◌∷◌, List, length, true, All};
 ghost use Rattle.ld_term.specs.Terms.{Term};
-ghost use Rattle.ld_term.specs.Tokens.{tokens_of, tokens_from};
-ghost use Rattle.ld_term.specs.Grammar.{IsTermText};
 ghost use Rattle.term_graph.specs.TermLists.{term_at};
-ghost use Rattle.term_graph.specs.StrictTexts.{as_written, strict_text};
 ghost use Rattle.term_graph.specs.Asks.{has_term, answered, ask_all};
 
 /// Where requests are granted, each number stands for its term as before, and each term that was asked for is
@@ -17,12 +14,4 @@ pub fn law_requests()
         → All (λ t. has_term t new ≡ true) requests }
     ensures skipped { (old : List Term) → (before : List Term) → (t : Term) → (after : List Term) → has_term t before ≡ true
         → ask_all (answered old) (before ++ t ∷ after) ≡ ask_all (answered old) (before ++ after) }
-{}
-
-/// The strict text of a term is a strict text of it, and of no other term.
-///
-/// The law is the contract; the body does nothing.
-pub fn law_strict_text()
-    ensures text { (t : Term) → IsTermText true (tokens_of (tokens_from true 0 (strict_text t))) (as_written t) }
-    ensures one { (t : Term) → (u : Term) → strict_text t ≡ strict_text u → t ≡ u }
 {}

@@ -1,7 +1,7 @@
 ghost use Rattle.std.specs.Prelude.{◌≡◌, ◌++◌, ◌<◌, ◌≤◌, length, IfOk, OnOk};
 ghost use Rattle.ld_term.specs.Terms.{leaf_count};
 ghost use Rattle.term_graph.specs.TermLists.{term_at};
-ghost use Rattle.term_graph.specs.StrictTexts.{strict_text};
+ghost use Rattle.ld_term.specs.StrictTexts.{strict_text};
 ghost use Rattle.term_graph.specs.Nodes.{term_of};
 
 use crate::graph::TermGraph;

@@ -2,21 +2,26 @@
 --
 -- The tokens of the text are those of the term, by induction on the term, with anything behind the text that
 -- doesn't go on with a run (`lex-strict_text`). That the text has no other term is the law of the grammar
--- (`IsTermText-strict_text`, `strict_text-inj`).
-use Rattle.std.proofs.Common.{◌≡◌, ℕ, ◌+◌, true, false, List, [], ◌∷◌, ◌++◌, take, refl, sym, ap, ◌∙◌, subst, append_assoc, append-nil}
-use Rattle.std.specs.List.{prefix_len}
+-- (`IsTermText-strict_text`, `strict_text-inj`). Its bytes are brackets, stars and x alone
+-- (`list_all-strict_text`).
+use Rattle.std.proofs.Common.{◌≡◌, ℕ, ◌+◌, ◌*◌, Bool, true, false, not, List, [], ◌∷◌, ◌++◌, length, take, refl, sym, ap, ◌∙◌, subst, arith, append_assoc, append-nil, length-append}
+use Rattle.std.specs.List.{prefix_len, list_all}
+use Rattle.std.proofs.Math.Dec.{eqb}
+use Rattle.std.proofs.lemmas.Bool.{true≢false}
+use Rattle.std.proofs.lemmas.List.Folds.{list_all-append, list_all_at}
 use Rattle.wb_base.specs.Names.{is_name_byte}
-use Rattle.ld_term.specs.Terms.{Term, variable, multiply}
-use Rattle.ld_term.specs.Written.{Written, leaf, named, times}
+use Rattle.wb_base.proofs.LineLemmas.{HasNoLf}
+use Rattle.ld_term.specs.Terms.{Term, variable, multiply, height, leaf_count}
+use Rattle.ld_term.specs.Written.{Written, leaf, named, times, HasNoName, written_height, written_products}
 use Rattle.ld_term.specs.Tokens.{Token, open_bracket, close_bracket, star, variable as variable_token, byte_token, tokens_of, lex, tokens_from, run_token}
 use Rattle.ld_term.specs.Grammar.{atom_tokens, IsTermText, atom}
+use Rattle.ld_term.specs.StrictTexts.{as_written, as_term, strict_text}
 use Rattle.ld_term.proofs.ReadingLemmas.{text-unique}
-use Rattle.term_graph.specs.StrictTexts.{as_written, strict_text}
 
 -- ---- Tokens ----
 
 -- No run goes on here.
-abbrev EndsRun : List ℕ → Type 0
+abbrev pub EndsRun : List ℕ → Type 0
 EndsRun [] = Unit {0}
 EndsRun (byte ∷ bytes) = is_name_byte byte ≡ false
 
@@ -25,7 +30,7 @@ abbrev HasTokens : List ℕ → List Token → Type 0
 HasTokens bytes tokens = (place : ℕ) → tokens_of (lex true false place bytes) ≡ tokens
 
 -- where no run goes on, nothing is known of the run before
-lex-ends
+pub lex-ends
     : (place : ℕ) (bytes : List ℕ)
     → EndsRun bytes
     → lex true true place bytes ≡ lex true false place bytes
@@ -68,7 +73,7 @@ unfolding lex
 HasTokens-nil place = refl
 
 -- a product in brackets, with anything behind it
-bracketed
+pub bracketed
     : {X : Type 0} (first middle last : X) (l r rest : List X)
     → (first ∷ (l ++ (middle ∷ (r ++ (last ∷ []))))) ++ rest ≡ first ∷ (l ++ (middle ∷ (r ++ (last ∷ rest))))
 bracketed first middle last l r rest =
@@ -103,29 +108,20 @@ IsTermText-strict_text t =
     ∙ lex-strict_text t [] [] tt HasTokens-nil 1
     ∙ append-nil (atom_tokens (as_written t)))
 
--- the left and the right part of a product that is written
-abbrev left_part : Written → Written
-left_part leaf = leaf
-left_part (named name place) = leaf
-left_part (times a b) = a
+-- a term is what it is written as
+pub as_term-as_written : (t : Term) → as_term (as_written t) ≡ t
+as_term-as_written variable = refl
+as_term-as_written (multiply t u) = λ i. multiply (as_term-as_written t i) (as_term-as_written u i)
 
-abbrev right_part : Written → Written
-right_part leaf = leaf
-right_part (named name place) = leaf
-right_part (times a b) = b
-
-abbrev IsProduct : Written → Type 0
-IsProduct leaf = ⊥
-IsProduct (named name place) = ⊥
-IsProduct (times a b) = Unit {0}
+-- and what is written without names is a term that is written so
+pub as_written-as_term : (w : Written) → HasNoName w → as_written (as_term w) ≡ w
+as_written-as_term leaf p = refl
+as_written-as_term (named name place) p = absurd p
+as_written-as_term (times a b) p = λ i. times (as_written-as_term a p.0 i) (as_written-as_term b p.1 i)
 
 -- terms that are written alike are one
 as_written-inj : (t u : Term) → as_written t ≡ as_written u → t ≡ u
-as_written-inj variable variable is = refl
-as_written-inj variable (multiply c d) is = absurd (subst IsProduct (sym is) tt)
-as_written-inj (multiply a b) variable is = absurd (subst IsProduct is tt)
-as_written-inj (multiply a b) (multiply c d) is =
-    λ i. multiply (as_written-inj a c (ap left_part is) i) (as_written-inj b d (ap right_part is) i)
+as_written-inj t u is = sym (as_term-as_written t) ∙ ap as_term is ∙ as_term-as_written u
 
 -- terms with one strict text are one
 pub strict_text-inj : (t u : Term) → strict_text t ≡ strict_text u → t ≡ u
@@ -134,3 +130,57 @@ strict_text-inj t u is =
     let second =
     subst (λ z. IsTermText true (tokens_of (tokens_from true 0 z)) (as_written u)) (sym is) (IsTermText-strict_text u) in
     as_written-inj t u (text-unique true _ (as_written t) (as_written u) first second)
+
+-- ---- Sizes ----
+
+-- a term is as high as it is written
+pub written_height-as_written : (t : Term) → written_height (as_written t) ≡ height t
+written_height-as_written variable = refl
+written_height-as_written (multiply t u) = rw (written_height-as_written t, written_height-as_written u) refl
+
+-- it has one leaf more than products
+pub written_products-as_written : (t : Term) → written_products (as_written t) + 1 ≡ leaf_count t
+written_products-as_written variable = refl
+written_products-as_written (multiply t u) = omega (arith, written_products-as_written t, written_products-as_written u)
+
+-- a strict text has one byte for each leaf and three for each product
+pub length-strict_text : (t : Term) → length (strict_text t) + 3 ≡ 4 * leaf_count t
+length-strict_text variable = refl
+length-strict_text (multiply t u) =
+    let right = length-append (strict_text u) (41 ∷ []) in
+    let both = length-append (strict_text t) (42 ∷ (strict_text u ++ (41 ∷ []))) in
+    omega (arith, both, right, length-strict_text t, length-strict_text u)
+
+-- ---- Bytes ----
+
+-- what holds of brackets, stars and x holds of each byte
+list_all-strict_text
+    : (p : ℕ → Bool)
+    → p 40 ≡ true
+    → p 41 ≡ true
+    → p 42 ≡ true
+    → p 120 ≡ true
+    → (t : Term)
+    → list_all p (strict_text t) ≡ true
+list_all-strict_text p left right middle single variable = rw single refl
+list_all-strict_text p left right middle single (multiply t u) =
+    rw (
+      left,
+      list_all-append p (strict_text t) (42 ∷ (strict_text u ++ (41 ∷ []))),
+      list_all-strict_text p left right middle single t,
+      middle,
+      list_all-append p (strict_text u) (41 ∷ []),
+      list_all-strict_text p left right middle single u,
+      right,
+    ) refl
+
+-- no byte is a space
+pub strict_text-no_space : (t : Term) → list_all (λ b. not (eqb b 32)) (strict_text t) ≡ true
+strict_text-no_space t = list_all-strict_text (λ b. not (eqb b 32)) refl refl refl refl t
+
+-- no byte is an LF
+pub strict_text-no_lf : (t : Term) → HasNoLf (strict_text t)
+strict_text-no_lf t k within is =
+    true≢false
+    (sym (list_all-strict_text (λ b. not (eqb b 10)) refl refl refl refl t)
+    ∙ list_all_at (λ b. not (eqb b 10)) (strict_text t) k 0 within (rw is refl))
