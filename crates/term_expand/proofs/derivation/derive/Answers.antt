@@ -1,0 +1,5 @@
+use Rattle.term_expand.proofs.WorkLemmas.{derivation-equivalent}
+use Rattle.term_expand.proofs.derivation.derive.Goals as goal
+
+pub returns-clause-equivalent : goal.returns-clause-equivalent
+returns-clause-equivalent c = derivation-equivalent _ _ c.args.node _ c.derive_by.ensures.made

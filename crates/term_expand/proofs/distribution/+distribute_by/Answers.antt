@@ -1,0 +1,55 @@
+-- The distribution over a product is made of those over its parts.
+use Rattle.std.proofs.Common.{ℕ, Ok}
+use Rattle.std.proofs.lemmas.Result.{err_from_is_err_and}
+use Rattle.term_expand.specs.Memos.{IsMade}
+use Rattle.term_expand.specs.declared.memo.Work.TheVariants.{Distribution}
+use Rattle.term_expand.proofs.MemoLemmas.{IsMemo-product, IsMade-answer, IsAnswer-made}
+use Rattle.term_expand.proofs.WorkLemmas.{first-refused, second-refused, parts-made, distribution-begins, product-refused, product-made}
+use Rattle.term_expand.proofs.distribution.+distribute_by.Goals as goal
+
+pub returns-in_default-clause-memo : goal.returns-in_default-clause-memo
+returns-in_default-clause-memo t c =
+    IsMemo-product _ _ c.args.a c.args.b c.args.memo.now _ c.product.ensures.asked c.requires.memo
+
+pub returns-in-Some-find-clause-made : goal.returns-in-Some-find-clause-made
+returns-in-Some-find-clause-made t c =
+    IsAnswer-made _ _ _ (rw (c.index.ensures, c.index-2.ensures) at (c.in-Some-find.ensures c.args.graph.now c.requires.memo))
+
+pub returns-in_err-left-clause-refused : goal.returns-in_err-left-clause-refused
+returns-in_err-left-clause-refused t c =
+    let (e, is, same) = err_from_is_err_and c.from_residual.result c.from_residual.ensures.1 in
+    let begins = distribution-begins _ _ _ _ _ c.requires.left c.requires.right c.in-Some.ensures in
+    rw (is, same) (first-refused _ _ _ _ _ begins _ c.in_err-left.ensures.refused)
+
+pub returns-in_err-right-clause-refused : goal.returns-in_err-right-clause-refused
+returns-in_err-right-clause-refused t c =
+    let (e, is, same) = err_from_is_err_and c.from_residual-in_err-right.result c.from_residual-in_err-right.ensures.1 in
+    let begins = distribution-begins _ _ _ _ _ c.requires.left c.requires.right c.in-Some.ensures in
+    rw (is, same) (second-refused _ _ _ _ _ begins _ _ c.in_ok-left.ensures.made _ c.in_err-right.ensures.refused)
+
+pub returns-in_err-number-clause-refused : goal.returns-in_err-number-clause-refused
+returns-in_err-number-clause-refused t c =
+    let (e, is, same) = err_from_is_err_and c.from_residual-in_err-number.result c.from_residual-in_err-number.ensures.1 in
+    let begins = distribution-begins _ _ _ _ _ c.requires.left c.requires.right c.in-Some.ensures in
+    let parts = parts-made _ _ _ _ _ begins _ _ c.in_ok-left.ensures.made _ _ c.in_ok-right.ensures.made in
+    rw (is, same) (product-refused _ _ _ _ _ c.requires.left c.requires.right c.in-Some.ensures _ _ _ parts _ c.in_err-number.ensures.refused)
+
+-- the distribution is made
+made
+    : (t : ℕ) (c : goal.In_ok-remember t)
+    → IsMade c.args.graph.now c.product-2.new.self (Distribution c.args.a c.args.b) c.in_ok-number.number
+made t c =
+    let begins = distribution-begins _ _ _ _ _ c.requires.left c.requires.right c.in-Some.ensures in
+    let parts = parts-made _ _ _ _ _ begins _ _ c.in_ok-left.ensures.made _ _ c.in_ok-right.ensures.made in
+    let number = c.in_ok-number.ensures.number in
+    product-made _ _ _ _ _ c.requires.left c.requires.right c.in-Some.ensures _ _ _ parts _ _ number.0 number.1 c.in_ok-number.ensures.asked
+
+pub returns-clause-made : goal.returns-clause-made
+returns-clause-made t c = made t c
+
+pub returns-clause-memo : goal.returns-clause-memo
+returns-clause-memo t c =
+    let memo = c.distribute_by-2.new.memo in
+    let kept = IsMemo-product _ _ c.in_ok-left.left c.in_ok-right.right memo (Ok c.in_ok-number.number) c.in_ok-number.ensures.asked c.in_ok-right.ensures.memo in
+    let answer = IsMade-answer _ _ _ _ (c.requires.left, c.requires.right) (made t c) in
+    c.in_ok-remember.ensures c.product-2.new.self kept (rw (c.index.ensures, c.index-2.ensures) answer)

@@ -1,0 +1,4 @@
+pub mod Expansions
+pub mod Requests
+pub mod Outcomes
+pub mod Memos
