@@ -1,2 +1,4 @@
 pub mod BraidLemmas
 pub mod PlacedLemmas
+pub mod ValueLemmas
+pub mod MemoLemmas

@@ -1,1 +1,3 @@
 pub mod Braids
+pub mod Values
+pub mod Memos

@@ -14,7 +14,11 @@ fn word_of(alloc: Global, graph: &TermGraph, node: NodeId, limit: u32) -> Result
 }
 
 // The product of two terms of which no proof knows that they are there.
-fn product_of(graph: &mut TermGraph, left: NodeId, right: NodeId) -> Result<NodeId, GraphErr> {
+pub(crate) fn product_of(
+    graph: &mut TermGraph,
+    left: NodeId,
+    right: NodeId,
+) -> Result<NodeId, GraphErr> {
     let most = graph.nodes() as usize;
     if left.index() > most || right.index() > most {
         return Err(GraphErr::Memory);
