@@ -14,12 +14,14 @@ use Rattle.braid_word.proofs.EquivalenceLemmas.{on_last, EquivalentOn-sym, Equiv
 use Rattle.braid_word.proofs.CommutingLemmas.{EquivalentOn-swap_far, EquivalentOn-braid}
 use Rattle.handle_find.specs.Handles.{IsHandle, reduct}
 use Rattle.handle_find.proofs.ReductLemmas.{EquivalentOn-reduct}
+use Rattle.term_eval.specs.Braids.{braid}
+use Rattle.term_eval.proofs.BraidLemmas.{on-written}
 use Rattle.trace_format.specs.declared.line.StepLine.{StepLine}
 use Rattle.trace_format.specs.declared.line.StepLine.TheVariants.{Handle, Commute, Swap, Delete, Insert}
-use Rattle.trace_format.specs.TraceText.{Trace, handle_step}
-use Rattle.trace_format.specs.TraceLines.{IsStepLine}
+use Rattle.trace_format.specs.TraceText.{Header, words, terms, Trace, handle_step}
+use Rattle.trace_format.specs.TraceLines.{IsStepLine, IsHeader}
 use Rattle.trace_format.proofs.TraceLaws.{trace_text-injective}
-use Rattle.trace_check.specs.Accepted.{IsStep, IsSteps, IsStepOn, IsAccepted, IsValid}
+use Rattle.trace_check.specs.Accepted.{left_word, right_word, quotient_of, IsStep, IsSteps, IsStepOn, IsAccepted, IsValid}
 use Rattle.trace_check.proofs.VerdictLemmas.{Holds-Shows, Holds-unique, Equal-EquivalentOn}
 
 -- ---- Steps ----
@@ -170,17 +172,28 @@ IsSteps-append a (t ∷ ss) b s c (d, first, within, rest) step short =
 
 -- ---- Acceptance ----
 
--- the witness of an accepted trace is what the quotient of its words is equivalent to
+-- the words of a trace, or the braids of its terms, are on as many strands as letters that can be read
+pub on_words
+    : (h : Header)
+    → IsHeader h
+    → IsOn (MAX_INDEX + 1) (left_word h) × IsOn (MAX_INDEX + 1) (right_word h)
+on_words (words u v) is = (is.0.on, is.1.on)
+on_words (terms t u) is = (
+  on-written t (braid t) MAX_INDEX refl is.0.low,
+  on-written u (braid u) MAX_INDEX refl is.1.low,
+)
+
+-- the witness of an accepted trace is what the quotient is equivalent to
 EquivalentOn-witness
     : (n : ℕ) (bytes : List ℕ) (t : Trace)
     → IsAccepted bytes t
-    → IsOn n t.left
-    → IsOn n t.right
+    → IsOn n (left_word t.header)
+    → IsOn n (right_word t.header)
     → AllByRecursion (IsStepOn n) t.steps
-    → EquivalentOn n (quotient t.left t.right) t.witness
+    → EquivalentOn n (quotient_of t.header) t.witness
 EquivalentOn-witness n bytes t accepted left right on =
-    EquivalentOn-IsSteps n (quotient t.left t.right) t.steps t.witness
-    (on_quotient n t.left t.right left right)
+    EquivalentOn-IsSteps n (quotient_of t.header) t.steps t.witness
+    (on_quotient n (left_word t.header) (right_word t.header) left right)
     (AllInsertsOn n t.steps accepted.bounds.steps on) accepted.steps
 
 -- what an accepted trace claims is true
@@ -190,19 +203,20 @@ pub IsValid-accepted
     → IsValid t
 IsValid-accepted bytes t accepted =
     let n : ℕ = MAX_INDEX + 1 in
-    let left : IsOn n t.left = accepted.bounds.left.on in
-    let right : IsOn n t.right = accepted.bounds.right.on in
+    let u : List Letter = left_word t.header in
+    let v : List Letter = right_word t.header in
+    let (left, right) = on_words t.header accepted.bounds.header in
     let steps = AllStepsOn t.steps accepted.bounds.steps in
     let chain = EquivalentOn-witness n bytes t accepted left right steps in
-    let stands : Equivalent t.witness (quotient t.left t.right) = (n, EquivalentOn-sym chain) in
-    let holds = Holds-Shows t.verdict t.left t.right t.witness stands accepted.shown in
+    let stands : Equivalent t.witness (quotient_of t.header) = (n, EquivalentOn-sym chain) in
+    let holds = Holds-Shows t.verdict u v t.witness stands accepted.shown in
     record {
       witness = stands;
       shown = accepted.shown;
       holds = holds;
-      only = λ d other. Holds-unique d t.verdict t.left t.right other holds;
+      only = λ d other. Holds-unique d t.verdict u v other holds;
       equal = λ m on_u on_v on.
-          Equal-EquivalentOn m t.verdict t.left t.right t.witness
+          Equal-EquivalentOn m t.verdict u v t.witness
           (EquivalentOn-witness m bytes t accepted on_u on_v on) accepted.shown;
     }
 

@@ -9,18 +9,21 @@ use Rattle.wb_base.specs.Streams.{one_more}
 use Rattle.wb_base.specs.Lines.{line}
 use Rattle.braid_word.specs.Words.{Letter, quotient}
 use Rattle.braid_word.specs.Notation.{IsReadable}
+use Rattle.braid_word.proofs.WordLemmas.{length-quotient}
 use Rattle.braid_word.specs.Sign.{sign_of}
 use Rattle.braid_word.specs.declared.TheConstants.{MAX_LETTERS}
+use Rattle.ld_term.specs.Terms.{Term}
+use Rattle.term_eval.specs.Braids.{braid}
 use Rattle.trace_format.specs.declared.verdict.Verdict.{Verdict}
 use Rattle.trace_format.specs.declared.line.StepLine.{StepLine}
-use Rattle.trace_format.specs.declared.line.Line.{Line}
-use Rattle.trace_format.specs.declared.line.Line.TheVariants as lines
+use Rattle.trace_format.specs.Said.{Said}
+use Rattle.trace_format.specs.Said as said
 use Rattle.trace_format.specs.Verdicts.{verdict_of}
-use Rattle.trace_format.specs.TraceText.{Trace, trace_text}
-use Rattle.trace_format.specs.TraceLines.{line_text, IsStepLine, IsLine, IsTrace}
+use Rattle.trace_format.specs.TraceText.{Header, words, terms, Trace, trace_text}
+use Rattle.trace_format.specs.TraceLines.{line_text, IsStepLine, IsShortTerm, IsLine, IsHeader, IsTrace}
 use Rattle.trace_format.proofs.LineLaws.{line_text-no_lf}
-use Rattle.trace_format.proofs.TraceLaws.{tail_lines, step_lines, trace_lines, trace_text-lines}
-use Rattle.trace_check.specs.Accepted.{IsSteps, IsAccepted, Claim, claim_of, IsValid}
+use Rattle.trace_format.proofs.TraceLaws.{tail_lines, step_lines, left_line, right_line, trace_lines, trace_text-lines}
+use Rattle.trace_check.specs.Accepted.{left_word, right_word, quotient_of, IsSteps, IsAccepted, Claim, claim_of, IsValid}
 use Rattle.trace_check.specs.Cutting.{cut}
 use Rattle.trace_check.specs.Checking.{claimed, walk, checked_of, Gives}
 use Rattle.trace_check.specs.declared.checked.CheckErr.{CheckErr}
@@ -51,7 +54,7 @@ claim_from replay steps verdict witness = record {
 }
 
 -- Lines from a replay on are those of steps that lead to a witness of the verdict.
-record IsReplayed (replay : Replay) (all : List Line) (claim : Claim) : Type 0 where
+record IsReplayed (replay : Replay) (all : List Said) (claim : Claim) : Type 0 where
   steps : List StepLine
   verdict : Verdict
   witness : List Letter
@@ -64,7 +67,7 @@ record IsReplayed (replay : Replay) (all : List Line) (claim : Claim) : Type 0 w
 
 -- the end leads to what is claimed
 Leads-Passed
-    : (c : Claim) (all : List Line) (claim : Claim)
+    : (c : Claim) (all : List Said) (claim : Claim)
     → Leads (due.Passed c) all claim
     → (all ≡ []) × (claim ≡ c)
 Leads-Passed c [] claim leads = (refl, (let same : c ≡ claim = Passed-injective c claim leads in sym same))
@@ -75,34 +78,34 @@ Leads-Passed c (l ∷ all) claim (next, bounds, follows, leads) = absurd follows
 
 -- so does the line of the end
 Leads-Finish
-    : (replay : Replay) (verdict : Verdict) (all : List Line) (claim : Claim)
+    : (replay : Replay) (verdict : Verdict) (all : List Said) (claim : Claim)
     → Leads (due.Finish replay verdict) all claim
-    → (all ≡ lines.Finish ∷ []) × (claim ≡ claimed replay verdict)
+    → (all ≡ said.finish ∷ []) × (claim ≡ claimed replay verdict)
 Leads-Finish replay verdict [] claim leads = absurd (cc)
-Leads-Finish replay verdict (lines.Finish ∷ all) claim (next, bounds, follows, leads) =
+Leads-Finish replay verdict (said.finish ∷ all) claim (next, bounds, follows, leads) =
     let (none, same) = Leads-Passed (claimed replay verdict) all claim
     (subst (λ d. Leads d all claim) follows leads) in
-    (ap (λ rest. lines.Finish ∷ rest) none, same)
+    (ap (λ rest. said.finish ∷ rest) none, same)
 Leads-Finish replay verdict (l ∷ all) claim (next, bounds, follows, leads) = absurd follows
 
 -- What a witness line and the end show.
-record IsShown (replay : Replay) (verdict : Verdict) (all : List Line) (claim : Claim) : Type 0 where
-  lines_are : all ≡ lines.Witness replay.present ∷ lines.Finish ∷ []
+record IsShown (replay : Replay) (verdict : Verdict) (all : List Said) (claim : Claim) : Type 0 where
+  lines_are : all ≡ said.witness replay.present ∷ said.finish ∷ []
   readable : IsReadable replay.present
   sign : verdict_of (sign_of replay.present) ≡ Some verdict
   claims : claim ≡ claimed replay verdict
 
 -- so do the lines of the witness and of the end
 Leads-Witness
-    : (replay : Replay) (verdict : Verdict) (all : List Line) (claim : Claim)
+    : (replay : Replay) (verdict : Verdict) (all : List Said) (claim : Claim)
     → Leads (due.Witness replay verdict) all claim
     → IsShown replay verdict all claim
 Leads-Witness replay verdict [] claim leads = absurd (cc)
-Leads-Witness replay verdict (lines.Witness w ∷ all) claim (next, bounds, (same, sign, follows), leads) =
+Leads-Witness replay verdict (said.witness w ∷ all) claim (next, bounds, (same, sign, follows), leads) =
     let (last, claims) = Leads-Finish replay verdict all claim
     (subst (λ d. Leads d all claim) follows leads) in
     record {
-      lines_are = ap₂ (λ w rest. lines.Witness w ∷ rest) same last;
+      lines_are = ap₂ (λ w rest. said.witness w ∷ rest) same last;
       readable = subst IsReadable same bounds;
       sign = subst (λ w. verdict_of (sign_of w) ≡ Some verdict) same sign;
       claims = claims;
@@ -111,32 +114,32 @@ Leads-Witness replay verdict (l ∷ all) claim (next, bounds, follows, leads) = 
 
 -- the lines from a replay on
 Leads-Step
-    : (replay : Replay) (all : List Line) (claim : Claim)
+    : (replay : Replay) (all : List Said) (claim : Claim)
     → Leads (due.Step replay) all claim
     → IsReplayed replay all claim
 Leads-Step replay [] claim leads = absurd (cc)
-Leads-Step replay (lines.Step step ∷ all) claim (next, bounds, follows, leads) =
+Leads-Step replay (said.step step ∷ all) claim (next, bounds, follows, leads) =
     let more = Leads-Step (at_word replay follows.word) all claim
     (subst (λ d. Leads d all claim) follows.due leads) in
     record {
       steps = step ∷ more.steps;
       verdict = more.verdict;
       witness = more.witness;
-      lines_are = ap (λ rest. lines.Step step ∷ rest) more.lines_are;
+      lines_are = ap (λ rest. said.step step ∷ rest) more.lines_are;
       bounds = (bounds, more.bounds);
       readable = more.readable;
       leads = (follows.word, follows.leads, follows.short, more.leads);
       sign = more.sign;
       claims = more.claims;
     }
-Leads-Step replay (lines.Verdict verdict ∷ all) claim (next, bounds, follows, leads) =
+Leads-Step replay (said.verdict verdict ∷ all) claim (next, bounds, follows, leads) =
     let last = Leads-Witness replay verdict all claim
     (subst (λ d. Leads d all claim) follows leads) in
     record {
       steps = [];
       verdict = verdict;
       witness = replay.present;
-      lines_are = ap (λ rest. lines.Verdict verdict ∷ rest) last.lines_are;
+      lines_are = ap (λ rest. said.verdict verdict ∷ rest) last.lines_are;
       bounds = tt;
       readable = last.readable;
       leads = refl;
@@ -184,36 +187,34 @@ abbrev pub counted_claim : Trace → Claim
 counted_claim t = record (claim_of t) { steps = counted 0 t.steps }
 
 -- The lines of a file that claims something are those of a trace that is accepted.
-record IsTraced (all : List Line) (claim : Claim) : Type 0 where
+record IsTraced (all : List Said) (claim : Claim) : Type 0 where
   trace : Trace
   lines_are : all ≡ trace_lines trace
   bounds : IsTrace trace
-  short : length (quotient trace.left trace.right) ≤ MAX_LETTERS
-  steps : IsSteps (quotient trace.left trace.right) trace.steps trace.witness
+  short : length (quotient_of trace.header) ≤ MAX_LETTERS
+  steps : IsSteps (quotient_of trace.header) trace.steps trace.witness
   sign : verdict_of (sign_of trace.witness) ≡ Some trace.verdict
   claims : claim ≡ counted_claim trace
 
 -- the lines from the right word on
 Leads-Right
-    : (u : List Letter) (all : List Line) (claim : Claim)
+    : (u : List Letter) (all : List Said) (claim : Claim)
     → IsReadable u
     → Leads (due.Right u) all claim
-    → IsTraced (lines.Start ∷ lines.Left u ∷ all) claim
+    → IsTraced (said.start ∷ said.left u ∷ all) claim
 Leads-Right u [] claim readable leads = absurd (cc)
-Leads-Right u (lines.Right v ∷ all) claim readable (next, bounds, (short, follows), leads) =
+Leads-Right u (said.right v ∷ all) claim readable (next, bounds, (short, follows), leads) =
     let more = Leads-Step (begun u v) all claim (subst (λ d. Leads d all claim) follows leads) in
     record {
       trace = record {
-        left = u;
-        right = v;
+        header = words u v;
         steps = more.steps;
         verdict = more.verdict;
         witness = more.witness;
       };
-      lines_are = ap (λ rest. lines.Start ∷ lines.Left u ∷ lines.Right v ∷ rest) more.lines_are;
+      lines_are = ap (λ rest. said.start ∷ said.left u ∷ said.right v ∷ rest) more.lines_are;
       bounds = record {
-        left = readable;
-        right = bounds;
+        header = (readable, bounds);
         steps = more.bounds;
         witness = more.readable;
       };
@@ -224,24 +225,85 @@ Leads-Right u (lines.Right v ∷ all) claim readable (next, bounds, (short, foll
     }
 Leads-Right u (l ∷ all) claim readable (next, bounds, follows, leads) = absurd follows
 
--- from the left word on
+-- from the right term on
+Leads-RightTerm
+    : (t : Term) (all : List Said) (claim : Claim)
+    → IsShortTerm t
+    → Leads (due.RightTerm (braid t)) all claim
+    → IsTraced (said.start ∷ said.left_term t ∷ all) claim
+Leads-RightTerm t [] claim small leads = absurd (cc)
+Leads-RightTerm t (said.right_term u ∷ all) claim small (next, bounds, (few, short, follows), leads) =
+    let more = Leads-Step (begun (braid t) (braid u)) all claim
+    (subst (λ d. Leads d all claim) follows leads) in
+    record {
+      trace = record {
+        header = terms t u;
+        steps = more.steps;
+        verdict = more.verdict;
+        witness = more.witness;
+      };
+      lines_are = ap (λ rest. said.start ∷ said.left_term t ∷ said.right_term u ∷ rest) more.lines_are;
+      bounds = record {
+        header = (small, bounds);
+        steps = more.bounds;
+        witness = more.readable;
+      };
+      short = short;
+      steps = more.leads;
+      sign = more.sign;
+      claims = more.claims;
+    }
+Leads-RightTerm t (l ∷ all) claim small (next, bounds, follows, leads) = absurd follows
+
+-- from the left line on
 Leads-Left
-    : (all : List Line) (claim : Claim)
+    : (all : List Said) (claim : Claim)
     → Leads due.Left all claim
-    → IsTraced (lines.Start ∷ all) claim
+    → IsTraced (said.start ∷ all) claim
 Leads-Left [] claim leads = absurd (cc)
-Leads-Left (lines.Left u ∷ all) claim (next, bounds, follows, leads) =
+Leads-Left (said.left u ∷ all) claim (next, bounds, follows, leads) =
     Leads-Right u all claim bounds (subst (λ d. Leads d all claim) follows leads)
+Leads-Left (said.left_term t ∷ all) claim (next, bounds, (short, follows), leads) =
+    Leads-RightTerm t all claim bounds (subst (λ d. Leads d all claim) follows leads)
 Leads-Left (l ∷ all) claim (next, bounds, follows, leads) = absurd follows
 
 -- from the first line on
-Leads-Start : (all : List Line) (claim : Claim) → Leads due.Start all claim → IsTraced all claim
+Leads-Start : (all : List Said) (claim : Claim) → Leads due.Start all claim → IsTraced all claim
 Leads-Start [] claim leads = absurd (cc)
-Leads-Start (lines.Start ∷ all) claim (next, bounds, follows, leads) =
+Leads-Start (said.start ∷ all) claim (next, bounds, follows, leads) =
     Leads-Left all claim (subst (λ d. Leads d all claim) follows leads)
 Leads-Start (l ∷ all) claim (next, bounds, follows, leads) = absurd follows
 
--- and back
+-- the two parts of a quotient are no longer than it
+shorter_parts
+    : (u v : List Letter)
+    → length (quotient u v) ≤ MAX_LETTERS
+    → (length u ≤ MAX_LETTERS) × (length v ≤ MAX_LETTERS)
+shorter_parts u v short =
+    let whole = length-quotient u v in (omega (arith, whole, short), omega (arith, whole, short))
+
+-- and back: the lines from the left one on lead to where the replay begins
+IsHeader-Leads
+    : (h : Header) (all : List Said) (claim : Claim)
+    → IsHeader h
+    → length (quotient_of h) ≤ MAX_LETTERS
+    → Leads (due.Step (begun (left_word h) (right_word h))) all claim
+    → Leads due.Left (left_line h ∷ right_line h ∷ all) claim
+IsHeader-Leads (words u v) all claim is short leads = (
+  due.Right u,
+  is.0,
+  refl,
+  (due.Step (begun u v), is.1, (short, refl), leads),
+)
+IsHeader-Leads (terms t u) all claim is short leads =
+    let (first, second) = shorter_parts (braid t) (braid u) short in (
+      due.RightTerm (braid t),
+      is.0,
+      (first, refl),
+      (due.Step (begun (braid t) (braid u)), is.1, (second, short, refl), leads),
+    )
+
+-- from the first line on
 IsAccepted-Leads
     : (bytes : List ℕ) (t : Trace)
     → IsAccepted bytes t
@@ -250,23 +312,15 @@ IsAccepted-Leads bytes t is = (
   due.Left,
   tt,
   refl,
-  (
-    due.Right t.left,
-    is.bounds.left,
-    refl,
-    (
-      due.Step (begun t.left t.right),
-      is.bounds.right,
-      (is.short, refl),
-      IsSteps-Leads (begun t.left t.right) t.steps t.verdict t.witness
-          is.bounds.steps is.bounds.witness is.steps (verdict_of-Shows t.verdict t.witness is.shown),
-    ),
-  ),
+  IsHeader-Leads t.header (step_lines t.steps (tail_lines t.verdict t.witness)) (counted_claim t)
+      is.bounds.header is.short
+      (IsSteps-Leads (begun (left_word t.header) (right_word t.header)) t.steps t.verdict t.witness
+      is.bounds.steps is.bounds.witness is.steps (verdict_of-Shows t.verdict t.witness is.shown)),
 )
 
 -- the texts of lines are cut into these again
 cut-lines
-    : (all : List Line)
+    : (all : List Said)
     → AllByRecursion IsLine all
     → cut (flat_map line (map line_text all)) ≡ (map line_text all, [])
 cut-lines [] are = refl
@@ -277,7 +331,7 @@ cut-lines (l ∷ all) are =
 
 -- lines that lead somewhere can be said
 Leads-IsLine
-    : (now : Due) (all : List Line) (claim : Claim)
+    : (now : Due) (all : List Said) (claim : Claim)
     → Leads now all claim
     → AllByRecursion IsLine all
 Leads-IsLine now [] claim leads = tt
@@ -347,8 +401,8 @@ length-steps t =
     let text = ap length (trace_text-lines t) in
     let tail = tail_lines t.verdict t.witness in
     let texts = length-map (trace_lines t) line_text in
-    let steps = length-append (map lines.Step t.steps) tail in
-    let many = length-map t.steps lines.Step in
+    let steps = length-append (map said.step t.steps) tail in
+    let many = length-map t.steps said.step in
     omega (arith, all, text, texts, steps, many)
 
 -- of a file of fewer bytes than 64 bits can count all steps are counted

@@ -2,7 +2,7 @@
 --
 -- A line is kept exactly where it is the text of what may be said there, and then what is due follows from
 -- that: `Follows-kept` and `kept-Follows`.
-use Rattle.std.proofs.Common.{◌≡◌, ℕ, ◌≤◌, Bool, true, false, cond, ltb, List, length, codes, Some, Result, Ok, Err, refl, sym, ap, ◌∙◌}
+use Rattle.std.proofs.Common.{◌≡◌, ℕ, ◌≤◌, ◌||◌, Bool, true, false, cond, ltb, List, length, codes, Option, Some, Result, Ok, Err, refl, sym, ap, ◌∙◌}
 use Rattle.std.specs.Str.{bytes_eq}
 use Rattle.std.proofs.lemmas.Bool.{le-ltb, ltb-false}
 use Rattle.std.proofs.lemmas.Slice.Eq.{bytes_eq-Decides}
@@ -12,19 +12,21 @@ use Rattle.braid_word.specs.Sign.{sign_of}
 use Rattle.braid_word.specs.declared.TheConstants.{MAX_LETTERS}
 use Rattle.braid_word.proofs.SpellingLemmas.{Ok-injective}
 use Rattle.trace_format.specs.declared.verdict.Verdict.{Verdict}
+use Rattle.term_eval.specs.Braids.{braid}
+use Rattle.trace_format.specs.declared.line.Kind.{Kind}
 use Rattle.trace_format.specs.declared.line.Kind.TheVariants as kinds
 use Rattle.trace_format.specs.declared.line.StepLine.{StepLine}
-use Rattle.trace_format.specs.declared.line.Line.{Line}
-use Rattle.trace_format.specs.declared.line.Line.TheVariants as lines
+use Rattle.trace_format.specs.Said.{Said}
+use Rattle.trace_format.specs.Said as said
 use Rattle.trace_format.specs.declared.line.LineErr.{LineErr}
 use Rattle.trace_format.specs.Verdicts.{verdict_of}
 use Rattle.trace_format.specs.TraceLines.{kind_of, line_of, line_text, IsStepLine, IsLine}
 use Rattle.trace_format.proofs.LineLaws.{line_of-is, line_of-line_text, kind_of-line_text}
 use Rattle.trace_check.specs.Accepted.{IsStep}
-use Rattle.trace_check.specs.Checking.{word_eq, gives_verdict, is_kind, stepped, begun_with, claimed, moved, shown, kept_start, kept_left, kept_right, kept_step, kept_witness, kept_finish, of_kind, kept_unless_long, kept_short, kept}
+use Rattle.trace_check.specs.Checking.{word_eq, gives_verdict, is_kind, stepped, stepped_to, with_word, begun_with, claimed, moved, shown, kept_start, kept_left, kept_right, kept_right_term, kept_step, kept_witness, kept_finish, of_kind, kept_unless_long, kept_short, kept}
 use Rattle.trace_check.specs.declared.TheConstants.{MAX_LINE}
 use Rattle.trace_check.specs.declared.checked.Why.{Why}
-use Rattle.trace_check.specs.declared.checked.Why.TheVariants.{Long, Sign, Witness}
+use Rattle.trace_check.specs.declared.checked.Why.TheVariants.{Header, Long, Sign, Witness}
 use Rattle.trace_check.specs.declared.replay.Replay.{Replay}
 use Rattle.trace_check.specs.declared.due.Due.{Due}
 use Rattle.trace_check.specs.declared.due.Due.TheVariants as due
@@ -50,21 +52,27 @@ pub record FollowsStep (replay : Replay) (step : StepLine) (next : Due) : Type 0
   pub due : next ≡ due.Step (at_word replay word)
 
 -- A line may be said where `now` is due, and then `next` is due.
-abbrev pub Follows : Due → Line → Due → Type 0
-Follows due.Start lines.Start next = next ≡ due.Left
-Follows due.Left (lines.Left w) next = next ≡ due.Right w
-Follows (due.Right u) (lines.Right v) next =
+abbrev pub Follows : Due → Said → Due → Type 0
+Follows due.Start said.start next = next ≡ due.Left
+Follows due.Left (said.left w) next = next ≡ due.Right w
+Follows due.Left (said.left_term t) next =
+    (length (braid t) ≤ MAX_LETTERS) × (next ≡ due.RightTerm (braid t))
+Follows (due.Right u) (said.right v) next =
     (length (quotient u v) ≤ MAX_LETTERS) × (next ≡ due.Step (begun u v))
-Follows (due.Step replay) (lines.Step step) next = FollowsStep replay step next
-Follows (due.Step replay) (lines.Verdict verdict) next = next ≡ due.Witness replay verdict
-Follows (due.Witness replay verdict) (lines.Witness w) next =
+Follows (due.RightTerm u) (said.right_term t) next =
+    (length (braid t) ≤ MAX_LETTERS)
+    × (length (quotient u (braid t)) ≤ MAX_LETTERS)
+    × (next ≡ due.Step (begun u (braid t)))
+Follows (due.Step replay) (said.step step) next = FollowsStep replay step next
+Follows (due.Step replay) (said.verdict verdict) next = next ≡ due.Witness replay verdict
+Follows (due.Witness replay verdict) (said.witness w) next =
     (w ≡ replay.present) × (verdict_of (sign_of w) ≡ Some verdict) × (next ≡ due.Finish replay verdict)
-Follows (due.Finish replay verdict) lines.Finish next = next ≡ due.Passed (claimed replay verdict)
+Follows (due.Finish replay verdict) said.finish next = next ≡ due.Passed (claimed replay verdict)
 Follows now l next = ⊥
 
 -- A line says something that may follow.
 pub record IsKept (now : Due) (line : List ℕ) (next : Due) : Type 0 where
-  pub says : Line
+  pub says : Said
   pub text : line ≡ line_text says
   pub bounds : IsLine says
   pub follows : Follows now says next
@@ -78,6 +86,7 @@ kept_unless_long-false
 kept_unless_long-false due.Start line = refl
 kept_unless_long-false due.Left line = refl
 kept_unless_long-false (due.Right left) line = refl
+kept_unless_long-false (due.RightTerm left) line = refl
 kept_unless_long-false (due.Step replay) line = refl
 kept_unless_long-false (due.Witness replay verdict) line = refl
 kept_unless_long-false (due.Finish replay verdict) line = refl
@@ -91,6 +100,7 @@ kept_unless_long-true
 kept_unless_long-true due.Start line next is = cc
 kept_unless_long-true due.Left line next is = cc
 kept_unless_long-true (due.Right left) line next is = cc
+kept_unless_long-true (due.RightTerm left) line next is = cc
 kept_unless_long-true (due.Step replay) line next is = cc
 kept_unless_long-true (due.Witness replay verdict) line next is = cc
 kept_unless_long-true (due.Finish replay verdict) line next is = cc
@@ -122,7 +132,7 @@ kept-Ok now line next is = go (ltb MAX_LINE (length line)) is
 
 -- what is read of a line that may stand there
 said-kept
-    : (now : Due) (line : List ℕ) (l : Line) (next : Due)
+    : (now : Due) (line : List ℕ) (l : Said) (next : Due)
     → line_of line ≡ Ok l
     → Follows now l next
     → IsKept now line next
@@ -140,7 +150,7 @@ of_kind-Ok false why kept next is = absurd (cc)
 
 -- a line with no reading of its own, by its text
 text-kept
-    : (now : Due) (line : List ℕ) (l : Line) (next : Due)
+    : (now : Due) (line : List ℕ) (l : Said) (next : Due)
     → bytes_eq line (line_text l) ≡ true
     → IsLine l
     → Follows now l next
@@ -159,23 +169,42 @@ kept_start-Follows
     → kept_start test ≡ Ok next
     → IsKept due.Start line next
 kept_start-Follows line next true test is =
-    text-kept due.Start line lines.Start next test tt (sym (Ok-injective _ _ is))
+    text-kept due.Start line said.start next test tt (sym (Ok-injective _ _ is))
 kept_start-Follows line next false test is = absurd (cc)
 
--- the left word
+-- what is due with a word that isn't too long
+with_word-Ok
+    : (w : List Letter) (follow : List Letter → Result Due Why) (next : Due)
+    → with_word (stepped_to w) follow ≡ Ok next
+    → (length w ≤ MAX_LETTERS) × (follow w ≡ Ok next)
+with_word-Ok w follow next is = go (ltb MAX_LETTERS (length w)) refl is
+  where
+    go
+        : (long : Bool)
+        → ltb MAX_LETTERS (length w) ≡ long
+        → with_word (cond long (Err Long) (Ok w)) follow ≡ Ok next
+        → (length w ≤ MAX_LETTERS) × (follow w ≡ Ok next)
+    go true test is = absurd (cc)
+    go false test is = (ltb-false _ _ test, is)
+
+-- the left word, or the left term
 kept_left-Follows
-    : (line : List ℕ) (next : Due) (read : Result Line LineErr)
+    : (line : List ℕ) (next : Due) (read : Result Said LineErr)
     → line_of line ≡ read
     → kept_left read ≡ Ok next
     → IsKept due.Left line next
-kept_left-Follows line next (Ok (lines.Left w)) read is =
-    said-kept due.Left line (lines.Left w) next read (sym (Ok-injective _ _ is))
-kept_left-Follows line next (Ok lines.Start) read is = absurd (cc)
-kept_left-Follows line next (Ok (lines.Right w)) read is = absurd (cc)
-kept_left-Follows line next (Ok (lines.Step step)) read is = absurd (cc)
-kept_left-Follows line next (Ok (lines.Verdict v)) read is = absurd (cc)
-kept_left-Follows line next (Ok (lines.Witness w)) read is = absurd (cc)
-kept_left-Follows line next (Ok lines.Finish) read is = absurd (cc)
+kept_left-Follows line next (Ok (said.left w)) read is =
+    said-kept due.Left line (said.left w) next read (sym (Ok-injective _ _ is))
+kept_left-Follows line next (Ok (said.left_term t)) read is =
+    let (short, follows) = with_word-Ok (braid t) (λ w. Ok (due.RightTerm w)) next is in
+    said-kept due.Left line (said.left_term t) next read (short, sym (Ok-injective _ _ follows))
+kept_left-Follows line next (Ok said.start) read is = absurd (cc)
+kept_left-Follows line next (Ok (said.right_term t)) read is = absurd (cc)
+kept_left-Follows line next (Ok (said.right w)) read is = absurd (cc)
+kept_left-Follows line next (Ok (said.step step)) read is = absurd (cc)
+kept_left-Follows line next (Ok (said.verdict v)) read is = absurd (cc)
+kept_left-Follows line next (Ok (said.witness w)) read is = absurd (cc)
+kept_left-Follows line next (Ok said.finish) read is = absurd (cc)
 kept_left-Follows line next (Err e) read is = absurd (cc)
 
 -- the right word
@@ -194,19 +223,41 @@ begun_with-Ok u v next is = go (ltb MAX_LETTERS (length (quotient u v))) refl is
     go false test is = (ltb-false _ _ test, sym (Ok-injective _ _ is))
 
 kept_right-Follows
-    : (u : List Letter) (line : List ℕ) (next : Due) (read : Result Line LineErr)
+    : (u : List Letter) (line : List ℕ) (next : Due) (read : Result Said LineErr)
     → line_of line ≡ read
     → kept_right u read ≡ Ok next
     → IsKept (due.Right u) line next
-kept_right-Follows u line next (Ok (lines.Right w)) read is =
-    said-kept (due.Right u) line (lines.Right w) next read (begun_with-Ok u w next is)
-kept_right-Follows u line next (Ok lines.Start) read is = absurd (cc)
-kept_right-Follows u line next (Ok (lines.Left w)) read is = absurd (cc)
-kept_right-Follows u line next (Ok (lines.Step step)) read is = absurd (cc)
-kept_right-Follows u line next (Ok (lines.Verdict v)) read is = absurd (cc)
-kept_right-Follows u line next (Ok (lines.Witness w)) read is = absurd (cc)
-kept_right-Follows u line next (Ok lines.Finish) read is = absurd (cc)
+kept_right-Follows u line next (Ok (said.right w)) read is =
+    said-kept (due.Right u) line (said.right w) next read (begun_with-Ok u w next is)
+kept_right-Follows u line next (Ok said.start) read is = absurd (cc)
+kept_right-Follows u line next (Ok (said.left_term t)) read is = absurd (cc)
+kept_right-Follows u line next (Ok (said.right_term t)) read is = absurd (cc)
+kept_right-Follows u line next (Ok (said.left w)) read is = absurd (cc)
+kept_right-Follows u line next (Ok (said.step step)) read is = absurd (cc)
+kept_right-Follows u line next (Ok (said.verdict v)) read is = absurd (cc)
+kept_right-Follows u line next (Ok (said.witness w)) read is = absurd (cc)
+kept_right-Follows u line next (Ok said.finish) read is = absurd (cc)
 kept_right-Follows u line next (Err e) read is = absurd (cc)
+
+-- the right term
+kept_right_term-Follows
+    : (u : List Letter) (line : List ℕ) (next : Due) (read : Result Said LineErr)
+    → line_of line ≡ read
+    → kept_right_term u read ≡ Ok next
+    → IsKept (due.RightTerm u) line next
+kept_right_term-Follows u line next (Ok (said.right_term t)) read is =
+    let (short, begins) = with_word-Ok (braid t) (begun_with u) next is in
+    let (within, follows) = begun_with-Ok u (braid t) next begins in
+    said-kept (due.RightTerm u) line (said.right_term t) next read (short, within, follows)
+kept_right_term-Follows u line next (Ok said.start) read is = absurd (cc)
+kept_right_term-Follows u line next (Ok (said.left w)) read is = absurd (cc)
+kept_right_term-Follows u line next (Ok (said.right w)) read is = absurd (cc)
+kept_right_term-Follows u line next (Ok (said.left_term t)) read is = absurd (cc)
+kept_right_term-Follows u line next (Ok (said.step step)) read is = absurd (cc)
+kept_right_term-Follows u line next (Ok (said.verdict v)) read is = absurd (cc)
+kept_right_term-Follows u line next (Ok (said.witness w)) read is = absurd (cc)
+kept_right_term-Follows u line next (Ok said.finish) read is = absurd (cc)
+kept_right_term-Follows u line next (Err e) read is = absurd (cc)
 
 -- a step
 moved-Ok
@@ -222,28 +273,30 @@ moved-Ok replay step next (Err why) bounds leads is = absurd (cc)
 
 -- a step or the verdict
 kept_step-Follows
-    : (replay : Replay) (line : List ℕ) (next : Due) (read : Result Line LineErr)
+    : (replay : Replay) (line : List ℕ) (next : Due) (read : Result Said LineErr)
     → line_of line ≡ read
     → kept_step replay read ≡ Ok next
     → IsKept (due.Step replay) line next
-kept_step-Follows replay line next (Ok (lines.Step step)) read is =
-    let bounds = (line_of-is line (lines.Step step) read).bounds in
-    said-kept (due.Step replay) line (lines.Step step) next read
+kept_step-Follows replay line next (Ok (said.step step)) read is =
+    let bounds = (line_of-is line (said.step step) read).bounds in
+    said-kept (due.Step replay) line (said.step step) next read
     (moved-Ok replay step next _ bounds refl is)
-kept_step-Follows replay line next (Ok (lines.Verdict v)) read is =
-    said-kept (due.Step replay) line (lines.Verdict v) next read (sym (Ok-injective _ _ is))
-kept_step-Follows replay line next (Ok lines.Start) read is = absurd (cc)
-kept_step-Follows replay line next (Ok (lines.Left w)) read is = absurd (cc)
-kept_step-Follows replay line next (Ok (lines.Right w)) read is = absurd (cc)
-kept_step-Follows replay line next (Ok (lines.Witness w)) read is = absurd (cc)
-kept_step-Follows replay line next (Ok lines.Finish) read is = absurd (cc)
+kept_step-Follows replay line next (Ok (said.verdict v)) read is =
+    said-kept (due.Step replay) line (said.verdict v) next read (sym (Ok-injective _ _ is))
+kept_step-Follows replay line next (Ok said.start) read is = absurd (cc)
+kept_step-Follows replay line next (Ok (said.left_term t)) read is = absurd (cc)
+kept_step-Follows replay line next (Ok (said.right_term t)) read is = absurd (cc)
+kept_step-Follows replay line next (Ok (said.left w)) read is = absurd (cc)
+kept_step-Follows replay line next (Ok (said.right w)) read is = absurd (cc)
+kept_step-Follows replay line next (Ok (said.witness w)) read is = absurd (cc)
+kept_step-Follows replay line next (Ok said.finish) read is = absurd (cc)
 kept_step-Follows replay line next (Err e) read is = absurd (cc)
 
 -- the witness
 shown-Follows
     : (replay : Replay) (verdict : Verdict) (w : List Letter) (next : Due)
     → shown replay verdict w ≡ Ok next
-    → Follows (due.Witness replay verdict) (lines.Witness w) next
+    → Follows (due.Witness replay verdict) (said.witness w) next
 shown-Follows replay verdict w next is =
     let same_word = Decides-word_eq w replay.present in
     let same_verdict = Decides-gives_verdict (verdict_of (sign_of w)) verdict in
@@ -254,25 +307,27 @@ shown-Follows replay verdict w next is =
         → (same ≡ true → w ≡ replay.present)
         → (goes ≡ true → verdict_of (sign_of w) ≡ Some verdict)
         → cond same (cond goes (Ok (due.Finish replay verdict)) (Err Sign)) (Err Witness) ≡ Ok next
-        → Follows (due.Witness replay verdict) (lines.Witness w) next
+        → Follows (due.Witness replay verdict) (said.witness w) next
     go true true one two is = (one refl, two refl, sym (Ok-injective _ _ is))
     go true false one two is = absurd (cc)
     go false goes one two is = absurd (cc)
 
 kept_witness-Follows
-    : (replay : Replay) (verdict : Verdict) (line : List ℕ) (next : Due) (read : Result Line LineErr)
+    : (replay : Replay) (verdict : Verdict) (line : List ℕ) (next : Due) (read : Result Said LineErr)
     → line_of line ≡ read
     → kept_witness replay verdict read ≡ Ok next
     → IsKept (due.Witness replay verdict) line next
-kept_witness-Follows replay verdict line next (Ok (lines.Witness w)) read is =
-    said-kept (due.Witness replay verdict) line (lines.Witness w) next read
+kept_witness-Follows replay verdict line next (Ok (said.witness w)) read is =
+    said-kept (due.Witness replay verdict) line (said.witness w) next read
     (shown-Follows replay verdict w next is)
-kept_witness-Follows replay verdict line next (Ok lines.Start) read is = absurd (cc)
-kept_witness-Follows replay verdict line next (Ok (lines.Left w)) read is = absurd (cc)
-kept_witness-Follows replay verdict line next (Ok (lines.Right w)) read is = absurd (cc)
-kept_witness-Follows replay verdict line next (Ok (lines.Step step)) read is = absurd (cc)
-kept_witness-Follows replay verdict line next (Ok (lines.Verdict v)) read is = absurd (cc)
-kept_witness-Follows replay verdict line next (Ok lines.Finish) read is = absurd (cc)
+kept_witness-Follows replay verdict line next (Ok said.start) read is = absurd (cc)
+kept_witness-Follows replay verdict line next (Ok (said.left_term t)) read is = absurd (cc)
+kept_witness-Follows replay verdict line next (Ok (said.right_term t)) read is = absurd (cc)
+kept_witness-Follows replay verdict line next (Ok (said.left w)) read is = absurd (cc)
+kept_witness-Follows replay verdict line next (Ok (said.right w)) read is = absurd (cc)
+kept_witness-Follows replay verdict line next (Ok (said.step step)) read is = absurd (cc)
+kept_witness-Follows replay verdict line next (Ok (said.verdict v)) read is = absurd (cc)
+kept_witness-Follows replay verdict line next (Ok said.finish) read is = absurd (cc)
 kept_witness-Follows replay verdict line next (Err e) read is = absurd (cc)
 
 -- the end
@@ -282,7 +337,7 @@ kept_finish-Follows
     → kept_finish replay verdict test ≡ Ok next
     → IsKept (due.Finish replay verdict) line next
 kept_finish-Follows replay verdict line next true test is =
-    text-kept (due.Finish replay verdict) line lines.Finish next test tt (sym (Ok-injective _ _ is))
+    text-kept (due.Finish replay verdict) line said.finish next test tt (sym (Ok-injective _ _ is))
 kept_finish-Follows replay verdict line next false test is = absurd (cc)
 
 kept_short-Follows
@@ -291,9 +346,13 @@ kept_short-Follows
     → IsKept now line next
 kept_short-Follows due.Start line next is = kept_start-Follows line next _ refl is
 kept_short-Follows due.Left line next is =
-    kept_left-Follows line next _ refl (of_kind-Ok (is_kind (kind_of line) kinds.Left) _ _ next is)
+    kept_left-Follows line next _ refl
+    (of_kind-Ok (is_kind (kind_of line) kinds.Left || is_kind (kind_of line) kinds.LeftTerm) _ _ next is)
 kept_short-Follows (due.Right u) line next is =
     kept_right-Follows u line next _ refl (of_kind-Ok (is_kind (kind_of line) kinds.Right) _ _ next is)
+kept_short-Follows (due.RightTerm u) line next is =
+    kept_right_term-Follows u line next _ refl
+    (of_kind-Ok (is_kind (kind_of line) kinds.RightTerm) _ _ next is)
 kept_short-Follows (due.Step replay) line next is = kept_step-Follows replay line next _ refl is
 kept_short-Follows (due.Witness replay verdict) line next is =
     kept_witness-Follows replay verdict line next _ refl
@@ -319,39 +378,53 @@ of_kind-due
 of_kind-due true why kept is = refl
 of_kind-due false why kept is = absurd (cc)
 
+-- Whether a line is of a kind that is due as the left one.
+abbrev is_left : Option Kind → Bool
+is_left kind = is_kind kind kinds.Left || is_kind kind kinds.LeftTerm
+
 kept_short-line_text
-    : (now : Due) (l : Line) (next : Due)
+    : (now : Due) (l : Said) (next : Due)
     → IsLine l
     → Follows now l next
     → kept_short now (line_text l) ≡ Ok next
-kept_short-line_text due.Start lines.Start next bounds follows = ap (λ d. Ok d) (sym follows)
-kept_short-line_text due.Left (lines.Left w) next bounds follows =
-    of_kind-due _ _ _ (ap (λ k. is_kind k kinds.Left) (kind_of-line_text (lines.Left w)))
-    ∙ ap kept_left (line_of-line_text (lines.Left w) bounds) ∙ ap (λ d. Ok d) (sym follows)
-kept_short-line_text (due.Right u) (lines.Right w) next bounds (short, follows) =
-    of_kind-due _ _ _ (ap (λ k. is_kind k kinds.Right) (kind_of-line_text (lines.Right w)))
-    ∙ ap (kept_right u) (line_of-line_text (lines.Right w) bounds)
+kept_short-line_text due.Start said.start next bounds follows = ap (λ d. Ok d) (sym follows)
+kept_short-line_text due.Left (said.left w) next bounds follows =
+    of_kind-due (is_left (kind_of (line_text (said.left w)))) Header _ (ap is_left (kind_of-line_text (said.left w)))
+    ∙ ap kept_left (line_of-line_text (said.left w) bounds) ∙ ap (λ d. Ok d) (sym follows)
+kept_short-line_text due.Left (said.left_term t) next bounds (short, follows) =
+    of_kind-due (is_left (kind_of (line_text (said.left_term t)))) Header
+    (kept_left (line_of (line_text (said.left_term t)))) (ap is_left (kind_of-line_text (said.left_term t)))
+    ∙ ap kept_left (line_of-line_text (said.left_term t) bounds)
     ∙ rw (le-ltb _ _ short) (ap (λ d. Ok d) (sym follows))
-kept_short-line_text (due.Step replay) (lines.Step step) next bounds follows =
+kept_short-line_text (due.Right u) (said.right w) next bounds (short, follows) =
+    of_kind-due _ _ _ (ap (λ k. is_kind k kinds.Right) (kind_of-line_text (said.right w)))
+    ∙ ap (kept_right u) (line_of-line_text (said.right w) bounds)
+    ∙ rw (le-ltb _ _ short) (ap (λ d. Ok d) (sym follows))
+kept_short-line_text (due.RightTerm u) (said.right_term t) next bounds (short, within, follows) =
+    of_kind-due _ Header (kept_right_term u (line_of (line_text (said.right_term t))))
+    (ap (λ k. is_kind k kinds.RightTerm) (kind_of-line_text (said.right_term t)))
+    ∙ ap (kept_right_term u) (line_of-line_text (said.right_term t) bounds)
+    ∙ rw (le-ltb _ _ short, le-ltb _ _ within) (ap (λ d. Ok d) (sym follows))
+kept_short-line_text (due.Step replay) (said.step step) next bounds follows =
     let leads = IsStep-stepped replay.present step follows.word follows.leads follows.short in
-    ap (kept_step replay) (line_of-line_text (lines.Step step) bounds)
+    ap (kept_step replay) (line_of-line_text (said.step step) bounds)
     ∙ ap (moved replay) leads ∙ ap (λ d. Ok d) (sym follows.due)
-kept_short-line_text (due.Step replay) (lines.Verdict v) next bounds follows =
-    ap (kept_step replay) (line_of-line_text (lines.Verdict v) bounds)
+kept_short-line_text (due.Step replay) (said.verdict v) next bounds follows =
+    ap (kept_step replay) (line_of-line_text (said.verdict v) bounds)
     ∙ ap (λ d. Ok d) (sym follows)
-kept_short-line_text (due.Witness replay verdict) (lines.Witness w) next bounds (same, sign, follows) =
+kept_short-line_text (due.Witness replay verdict) (said.witness w) next bounds (same, sign, follows) =
     let word = (Decides-word_eq w replay.present).1 same in
     let goes = (Decides-gives_verdict (verdict_of (sign_of w)) verdict).1 sign in
-    of_kind-due _ _ _ (ap (λ k. is_kind k kinds.Witness) (kind_of-line_text (lines.Witness w)))
-    ∙ ap (kept_witness replay verdict) (line_of-line_text (lines.Witness w) bounds)
+    of_kind-due _ _ _ (ap (λ k. is_kind k kinds.Witness) (kind_of-line_text (said.witness w)))
+    ∙ ap (kept_witness replay verdict) (line_of-line_text (said.witness w) bounds)
     ∙ rw (word, goes) (ap (λ d. Ok d) (sym follows))
-kept_short-line_text (due.Finish replay verdict) lines.Finish next bounds follows =
+kept_short-line_text (due.Finish replay verdict) said.finish next bounds follows =
     ap (λ d. Ok d) (sym follows)
 kept_short-line_text now l next bounds follows = absurd follows
 
 -- what may follow is kept
 pub Follows-kept
-    : (now : Due) (l : Line) (next : Due)
+    : (now : Due) (l : Said) (next : Due)
     → IsLine l
     → Follows now l next
     → kept now (line_text l) ≡ Ok next

@@ -8,3 +8,4 @@ pub mod CheckingLaws
 pub mod VerdictLemmas
 pub mod AcceptedLemmas
 pub mod RefusalLaws
+pub mod TermLemmas

@@ -5,12 +5,15 @@ use Rattle.wb_base.specs.Numbers.{sign_text}
 use Rattle.braid_word.specs.Words.{Letter, IsOn}
 use Rattle.braid_word.specs.Notation.{next_text, IsReadable}
 use Rattle.braid_word.specs.declared.TheConstants.{MAX_INDEX}
-use Rattle.trace_format.specs.declared.line.Line.{Line}
-use Rattle.trace_format.specs.declared.line.Line.TheVariants as lines
+use Rattle.trace_format.specs.Said.{Said}
+use Rattle.trace_format.specs.Said as said
+use Rattle.ld_term.specs.Terms.{Term}
+use Rattle.ld_term.specs.StrictTexts.{strict_text}
+use Rattle.ld_term.proofs.StrictLemmas.{length-strict_text}
 use Rattle.trace_format.specs.declared.line.StepLine.TheVariants.{Handle, Commute, Swap, Delete, Insert}
 use Rattle.trace_format.specs.declared.verdict.Verdict.TheVariants.{Less, Equal, Greater}
 use Rattle.trace_format.specs.TraceText.{word_field}
-use Rattle.trace_format.specs.TraceLines.{line_text, IsPlace, IsLine}
+use Rattle.trace_format.specs.TraceLines.{line_text, IsShortTerm, IsPlace, IsLine}
 use Rattle.trace_format.proofs.TraceLemmas.{word_field-flat_map}
 use Rattle.trace_check.specs.declared.TheConstants.{MAX_LINE}
 
@@ -54,34 +57,45 @@ length-keyword_word
 length-keyword_word keyword w short readable =
     omega (arith, short, length-word_field w readable, length-append keyword (word_field w))
 
+-- a keyword and a term
+length-keyword_term
+    : (keyword : List ℕ) (t : Term)
+    → length keyword ≤ 20
+    → IsShortTerm t
+    → length (keyword ++ strict_text t) ≤ MAX_LINE
+length-keyword_term keyword t short small =
+    omega (arith, short, small.few, length-strict_text t, length-append keyword (strict_text t))
+
 -- a place
 length-place : (p : ℕ) → IsPlace p → length (decimal p) ≤ 10
 length-place p place = length-decimal-le_wide 10 p (omega arith) (omega arith) (omega arith)
 
 -- no line of a trace is too long
-pub length-line_text : (l : Line) → IsLine l → length (line_text l) ≤ MAX_LINE
-length-line_text lines.Start is = omega arith
-length-line_text (lines.Left w) is = length-keyword_word (codes "left") w (omega arith) is
-length-line_text (lines.Right w) is = length-keyword_word (codes "right") w (omega arith) is
-length-line_text (lines.Step (Handle p q)) is =
+pub length-line_text : (l : Said) → IsLine l → length (line_text l) ≤ MAX_LINE
+length-line_text said.start is = omega arith
+length-line_text (said.left w) is = length-keyword_word (codes "left") w (omega arith) is
+length-line_text (said.right w) is = length-keyword_word (codes "right") w (omega arith) is
+length-line_text (said.left_term t) is = length-keyword_term (codes "left-term ") t (omega arith) is
+length-line_text (said.right_term t) is = length-keyword_term (codes "right-term ") t (omega arith) is
+length-line_text (said.step (Handle p q)) is =
     omega (
       arith,
       length-place p is.0,
       length-place q is.1,
       length-append (decimal p) (32 ∷ decimal q),
     )
-length-line_text (lines.Step (Commute p)) is = omega (arith, length-place p is)
-length-line_text (lines.Step (Swap p)) is = omega (arith, length-place p is)
-length-line_text (lines.Step (Delete p)) is = omega (arith, length-place p is)
-length-line_text (lines.Step (Insert p x)) is =
+length-line_text (said.step (Commute p)) is = omega (arith, length-place p is)
+length-line_text (said.step (Swap p)) is = omega (arith, length-place p is)
+length-line_text (said.step (Delete p)) is = omega (arith, length-place p is)
+length-line_text (said.step (Insert p x)) is =
     omega (
       arith,
       length-place p is.0,
       length-next_text x is.1.0.1,
       length-append (decimal p) (next_text x),
     )
-length-line_text (lines.Verdict Less) is = omega arith
-length-line_text (lines.Verdict Equal) is = omega arith
-length-line_text (lines.Verdict Greater) is = omega arith
-length-line_text (lines.Witness w) is = length-keyword_word (codes "witness") w (omega arith) is
-length-line_text lines.Finish is = omega arith
+length-line_text (said.verdict Less) is = omega arith
+length-line_text (said.verdict Equal) is = omega arith
+length-line_text (said.verdict Greater) is = omega arith
+length-line_text (said.witness w) is = length-keyword_word (codes "witness") w (omega arith) is
+length-line_text said.finish is = omega arith

@@ -5,7 +5,7 @@
 use Rattle.std.proofs.Common.{◌≡◌, ℕ, Bool, true, false, cond, ltb, List, [], ◌∷◌, length, map, Result, Ok, Err, refl, sym, ap, ap₂, ◌∙◌, subst}
 use Rattle.wb_base.specs.Streams.{one_more}
 use Rattle.braid_word.proofs.SpellingLemmas.{Ok-injective}
-use Rattle.trace_format.specs.declared.line.Line.{Line}
+use Rattle.trace_format.specs.Said.{Said}
 use Rattle.trace_format.specs.TraceLines.{line_text, IsLine}
 use Rattle.trace_check.specs.Accepted.{Claim}
 use Rattle.trace_check.specs.Checking.{kept, at_end, at_line, walk_on, walk}
@@ -17,13 +17,13 @@ use Rattle.trace_check.specs.declared.due.Due.TheVariants as due
 use Rattle.trace_check.proofs.KeptLaws.{Follows, kept-Follows, Follows-kept}
 
 -- The lines lead from what is due to the end of the file, and to what it claims.
-abbrev pub Leads : Due → List Line → Claim → Type 0
+abbrev pub Leads : Due → List Said → Claim → Type 0
 Leads now [] claim = now ≡ due.Passed claim
 Leads now (l ∷ all) claim = (next : Due) × IsLine l × Follows now l next × Leads next all claim
 
 -- Some bytes are the text of such lines.
 pub record IsWalked (now : Due) (ls : List (List ℕ)) (rest : List ℕ) (claim : Claim) : Type 0 where
-  pub all : List Line
+  pub all : List Said
   pub texts : ls ≡ map line_text all
   pub ended : rest ≡ []
   pub leads : Leads now all claim
@@ -49,6 +49,7 @@ at_end-Ok k (due.Passed c) (byte ∷ rest) claim is = absurd (cc)
 at_end-Ok k due.Start rest claim is = absurd (unfinished k rest claim is)
 at_end-Ok k due.Left rest claim is = absurd (unfinished k rest claim is)
 at_end-Ok k (due.Right u) rest claim is = absurd (unfinished k rest claim is)
+at_end-Ok k (due.RightTerm u) rest claim is = absurd (unfinished k rest claim is)
 at_end-Ok k (due.Step replay) rest claim is = absurd (unfinished k rest claim is)
 at_end-Ok k (due.Witness replay v) rest claim is = absurd (unfinished k rest claim is)
 at_end-Ok k (due.Finish replay v) rest claim is = absurd (unfinished k rest claim is)
@@ -83,7 +84,7 @@ walk-Leads k now (text ∷ ls) rest claim is =
 
 -- lines that lead there claim it
 pub Leads-walk
-    : (k : ℕ) (now : Due) (all : List Line) (claim : Claim)
+    : (k : ℕ) (now : Due) (all : List Said) (claim : Claim)
     → Leads now all claim
     → walk k now (map line_text all) [] ≡ Ok claim
 Leads-walk k now [] claim leads = subst (λ d. walk k d [] [] ≡ Ok claim) (sym leads) refl

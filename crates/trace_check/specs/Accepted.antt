@@ -1,9 +1,11 @@
 -- When a trace file is accepted, and what an accepted one shows.
 --
--- Its bytes are the text of a trace; the steps lead from the quotient of its two words to its witness,
--- over words that aren't too long; and the witness shows the verdict.
+-- Its bytes are the text of a trace; the steps lead from the quotient of its two words, or of the braids of
+-- its two terms, to its witness, over words that aren't too long; and the witness shows the verdict.
 -- Source: this project's own; the steps are Dehornoy's handle reduction and Artin's relations.
 --
+--   left_word h           the left word of what is compared, or the braid of the left term
+--   right_word h          the right one
 --   IsCommutation a p b   b is a with two letters that commute, the first at p, in the other order
 --   IsBraidMove a p b     b is a with one side of a braid relation, from p on, replaced by the other
 --   IsInsertion a p x b   b is a with x and its inverse put in, the first at p
@@ -21,13 +23,30 @@ use Rattle.braid_word.specs.Words.{Letter, letter, opposite, quotient, IsOn}
 use Rattle.braid_word.specs.Equivalence.{EquivalentOn, Equivalent}
 use Rattle.braid_word.specs.declared.TheConstants.{MAX_LETTERS}
 use Rattle.handle_find.specs.Handles.{IsHandle, reduct}
+use Rattle.term_eval.specs.Braids.{braid}
 use Rattle.trace_format.specs.declared.line.StepLine.{StepLine}
 use Rattle.trace_format.specs.declared.line.StepLine.TheVariants.{Handle, Commute, Swap, Delete, Insert}
 use Rattle.trace_format.specs.declared.verdict.Verdict.{Verdict}
 use Rattle.trace_format.specs.declared.verdict.Verdict.TheVariants.{Equal}
 use Rattle.trace_format.specs.Verdicts.{Holds, Shows}
-use Rattle.trace_format.specs.TraceText.{Trace, trace_text}
+use Rattle.trace_format.specs.TraceText.{Header, words, terms, Trace, trace_text}
 use Rattle.trace_format.specs.TraceLines.{IsTrace}
+
+-- ---- What is compared ----
+
+-- The left word; for two terms it is the braid of the left one.
+abbrev pub left_word : Header → List Letter
+left_word (words u v) = u
+left_word (terms t u) = braid t
+
+-- The right one.
+abbrev pub right_word : Header → List Letter
+right_word (words u v) = v
+right_word (terms t u) = braid u
+
+-- The quotient of both, with which a replay begins.
+abbrev pub quotient_of : Header → List Letter
+quotient_of h = quotient (left_word h) (right_word h)
 
 -- ---- Steps ----
 
@@ -83,31 +102,33 @@ IsStepOn n step = Unit {0}
 
 -- ---- Acceptance ----
 
--- The bytes are the trace's, its words are short enough, its steps lead from the quotient of its two words
--- to its witness, and that is sigma-positive for less, empty for equal, sigma-negative for greater.
+-- The bytes are the trace's, what it has can be read, its steps lead from the quotient of its two words, or of
+-- the braids of its two terms, to its witness, and that is sigma-positive for less, empty for equal,
+-- sigma-negative for greater.
 pub record IsAccepted (bytes : List ℕ) (t : Trace) : Type 0 where
   pub text : bytes ≡ trace_text t
   pub bounds : IsTrace t
-  pub short : length (quotient t.left t.right) ≤ MAX_LETTERS
-  pub steps : IsSteps (quotient t.left t.right) t.steps t.witness
+  pub short : length (quotient_of t.header) ≤ MAX_LETTERS
+  pub steps : IsSteps (quotient_of t.header) t.steps t.witness
   pub shown : Shows t.verdict t.witness
 
 -- ---- What an accepted trace shows ----
 
--- For the words u and v of the trace its witness represents u^-1 v and shows the verdict. So the verdict
--- holds of them in the order on braids, and no other does; it is equal exactly where the words are
--- equivalent, on any number of strands that both are on, and the letters that the steps insert.
+-- For the words u and v of the trace, or the braids of its terms, its witness represents u^-1 v and shows the
+-- verdict. So the verdict holds of them in the order on braids, and no other does; it is equal exactly where
+-- the words are equivalent, on any number of strands that both are on, and the letters that the steps insert.
 pub record IsValid (t : Trace) : Type 0 where
-  pub witness : Equivalent t.witness (quotient t.left t.right)
+  pub witness : Equivalent t.witness (quotient_of t.header)
   pub shown : Shows t.verdict t.witness
-  pub holds : Holds t.verdict t.left t.right
-  pub only : (d : Verdict) → Holds d t.left t.right → d ≡ t.verdict
-  pub equal : (n : ℕ) → IsOn n t.left → IsOn n t.right → AllByRecursion (IsStepOn n) t.steps
-      → (t.verdict ≡ Equal) ↔ EquivalentOn n t.left t.right
+  pub holds : Holds t.verdict (left_word t.header) (right_word t.header)
+  pub only : (d : Verdict) → Holds d (left_word t.header) (right_word t.header) → d ≡ t.verdict
+  pub equal : (n : ℕ) → IsOn n (left_word t.header) → IsOn n (right_word t.header) → AllByRecursion (IsStepOn n) t.steps
+      → (t.verdict ≡ Equal) ↔ EquivalentOn n (left_word t.header) (right_word t.header)
 
 -- ---- Claims ----
 
--- Two words, a verdict on them, the word that it gives as witness, and how many steps lead there.
+-- Two words, or the braids of two terms, a verdict on them, the word that it gives as witness, and how many
+-- steps lead there.
 pub record Claim : Type 0 where
   pub left : List Letter
   pub right : List Letter
@@ -118,8 +139,8 @@ pub record Claim : Type 0 where
 -- What a trace claims.
 abbrev pub claim_of : Trace → Claim
 claim_of t = record {
-  left = t.left;
-  right = t.right;
+  left = left_word t.header;
+  right = right_word t.header;
   verdict = t.verdict;
   witness = t.witness;
   steps = length t.steps;

@@ -21,6 +21,7 @@ use Rattle.wb_base.specs.Streams.{one_more}
 use Rattle.braid_word.specs.Words.{Letter, opposite, quotient}
 use Rattle.braid_word.specs.Sign.{sign_of}
 use Rattle.braid_word.specs.declared.TheConstants.{MAX_LETTERS}
+use Rattle.term_eval.specs.Braids.{braid}
 use Rattle.handle_find.specs.Handles.{is_handle_at, reduct}
 use Rattle.trace_format.specs.declared.verdict.Verdict.{Verdict}
 use Rattle.trace_format.specs.declared.verdict.Verdict.TheVariants as verdicts
@@ -28,8 +29,8 @@ use Rattle.trace_format.specs.declared.line.Kind.{Kind}
 use Rattle.trace_format.specs.declared.line.Kind.TheVariants as kinds
 use Rattle.trace_format.specs.declared.line.StepLine.{StepLine}
 use Rattle.trace_format.specs.declared.line.StepLine.TheVariants.{Handle, Commute, Swap, Delete, Insert}
-use Rattle.trace_format.specs.declared.line.Line.{Line}
-use Rattle.trace_format.specs.declared.line.Line.TheVariants as lines
+use Rattle.trace_format.specs.Said.{Said}
+use Rattle.trace_format.specs.Said as said
 use Rattle.trace_format.specs.declared.line.LineErr.{LineErr}
 use Rattle.trace_format.specs.declared.line.LineErr.TheVariants as line_errors
 use Rattle.trace_format.specs.Verdicts.{verdict_of}
@@ -95,6 +96,8 @@ abbrev pub is_kind : Option Kind → Kind → Bool
 is_kind (Some kinds.Start) kinds.Start = true
 is_kind (Some kinds.Left) kinds.Left = true
 is_kind (Some kinds.Right) kinds.Right = true
+is_kind (Some kinds.LeftTerm) kinds.LeftTerm = true
+is_kind (Some kinds.RightTerm) kinds.RightTerm = true
 is_kind (Some kinds.Step) kinds.Step = true
 is_kind (Some kinds.Verdict) kinds.Verdict = true
 is_kind (Some kinds.Witness) kinds.Witness = true
@@ -103,7 +106,7 @@ is_kind kind other = false
 
 -- ---- Steps ----
 
--- The new word, where it isn't too long.
+-- A word that is come to, where it isn't too long.
 abbrev pub stepped_to : List Letter → Result (List Letter) Why
 stepped_to w = if nat_lt MAX_LETTERS (length w) then Err Long else Ok w
 
@@ -151,9 +154,15 @@ cause_of line_errors.Unknown = Form
 cause_of line_errors.Form = Form
 cause_of line_errors.Memory = Form
 
--- The left word.
-abbrev pub kept_left : Result Line LineErr → Result Due Why
-kept_left (Ok (lines.Left w)) = Ok (due.Right w)
+-- What is due with a word, where it isn't too long.
+abbrev pub with_word : Result (List Letter) Why → (List Letter → Result Due Why) → Result Due Why
+with_word (Ok w) next = next w
+with_word (Err why) next = Err why
+
+-- The left word, or the braid of the left term.
+abbrev pub kept_left : Result Said LineErr → Result Due Why
+kept_left (Ok (said.left w)) = Ok (due.Right w)
+kept_left (Ok (said.left_term t)) = with_word (stepped_to (braid t)) (λ w. Ok (due.RightTerm w))
 kept_left (Ok other) = Err Form
 kept_left (Err e) = Err (cause_of e)
 
@@ -164,19 +173,25 @@ begun_with left right =
     then Err Long
     else Ok (due.Step (record { left = left; right = right; present = quotient left right; steps = 0 }))
 
-abbrev pub kept_right : List Letter → Result Line LineErr → Result Due Why
-kept_right left (Ok (lines.Right w)) = begun_with left w
+abbrev pub kept_right : List Letter → Result Said LineErr → Result Due Why
+kept_right left (Ok (said.right w)) = begun_with left w
 kept_right left (Ok other) = Err Form
 kept_right left (Err e) = Err (cause_of e)
+
+-- The same with the braid of the right term.
+abbrev pub kept_right_term : List Letter → Result Said LineErr → Result Due Why
+kept_right_term left (Ok (said.right_term t)) = with_word (stepped_to (braid t)) (begun_with left)
+kept_right_term left (Ok other) = Err Form
+kept_right_term left (Err e) = Err (cause_of e)
 
 -- A step, or the verdict.
 abbrev pub moved : Replay → Result (List Letter) Why → Result Due Why
 moved replay (Ok w) = Ok (due.Step (record replay { present = w; steps = one_more replay.steps }))
 moved replay (Err why) = Err why
 
-abbrev pub kept_step : Replay → Result Line LineErr → Result Due Why
-kept_step replay (Ok (lines.Step step)) = moved replay (stepped replay.present step)
-kept_step replay (Ok (lines.Verdict verdict)) = Ok (due.Witness replay verdict)
+abbrev pub kept_step : Replay → Result Said LineErr → Result Due Why
+kept_step replay (Ok (said.step step)) = moved replay (stepped replay.present step)
+kept_step replay (Ok (said.verdict verdict)) = Ok (due.Witness replay verdict)
 kept_step replay (Ok other) = Err Form
 kept_step replay (Err e) = Err Form
 
@@ -187,8 +202,8 @@ shown replay verdict w =
     then (if gives_verdict (verdict_of (sign_of w)) verdict then Ok (due.Finish replay verdict) else Err Sign)
     else Err Witness
 
-abbrev pub kept_witness : Replay → Verdict → Result Line LineErr → Result Due Why
-kept_witness replay verdict (Ok (lines.Witness w)) = shown replay verdict w
+abbrev pub kept_witness : Replay → Verdict → Result Said LineErr → Result Due Why
+kept_witness replay verdict (Ok (said.witness w)) = shown replay verdict w
 kept_witness replay verdict (Ok other) = Err Form
 kept_witness replay verdict (Err e) = Err (cause_of e)
 
@@ -214,9 +229,13 @@ of_kind false why kept = Err why
 -- What is due after a line that isn't too long.
 abbrev pub kept_short : Due → List ℕ → Result Due Why
 kept_short due.Start line = kept_start (bytes_eq line (codes "braid-trace 1"))
-kept_short due.Left line = of_kind (is_kind (kind_of line) kinds.Left) Header (kept_left (line_of line))
+kept_short due.Left line =
+    of_kind (is_kind (kind_of line) kinds.Left || is_kind (kind_of line) kinds.LeftTerm) Header
+    (kept_left (line_of line))
 kept_short (due.Right left) line =
     of_kind (is_kind (kind_of line) kinds.Right) Header (kept_right left (line_of line))
+kept_short (due.RightTerm left) line =
+    of_kind (is_kind (kind_of line) kinds.RightTerm) Header (kept_right_term left (line_of line))
 kept_short (due.Step replay) line = kept_step replay (line_of line)
 kept_short (due.Witness replay verdict) line =
     of_kind (is_kind (kind_of line) kinds.Witness) Form (kept_witness replay verdict (line_of line))

@@ -14,7 +14,7 @@ pub enum Why {
     Header,
     /// The step doesn't apply to the present word.
     Step,
-    /// The line, or a word, is too long.
+    /// The line, a term, or a word is too long.
     Long,
     /// The witness isn't the present word.
     Witness,
@@ -37,8 +37,8 @@ pub enum CheckErr {
     Memory,
 }
 
-/// What an accepted trace file claims: two words, a verdict on them, the word that it gives as witness,
-/// and the number of steps that lead there.
+/// What an accepted trace file claims: two words, or the braid words of two terms, a verdict on them, the
+/// word that it gives as witness, and the number of steps that lead there.
 #[derive(Debug, Drop)]
 pub struct Checked {
     left: Word,
@@ -76,14 +76,14 @@ impl Checked {
         }
     }
 
-    /// The left word.
+    /// The left word, or the braid word of the left term.
     pub fn left(&self) -> &[Letter]
         ensures { result.now ≡ self.now.left }
     {
         self.left.letters()
     }
 
-    /// The right word.
+    /// The right word, or the braid word of the right term.
     pub fn right(&self) -> &[Letter]
         ensures { result.now ≡ self.now.right }
     {

@@ -8,10 +8,12 @@ use trace_format::Verdict;
 pub enum Due {
     /// The start.
     Start,
-    /// The left word.
+    /// The left word, or the left term.
     Left,
     /// The right word, behind this left one.
     Right(Word),
+    /// The right term, behind a left one with this braid word.
+    RightTerm(Word),
     /// A step, or the verdict.
     Step(Replay),
     /// The witness of this verdict.

@@ -1,12 +1,18 @@
 // One line of a trace file, by the line that is due.
-ghost use Rattle.std.specs.Prelude.{◌≡◌, Some, Ok};
+ghost use Rattle.std.specs.Prelude.{◌≡◌, ◌<◌, length, Some, Ok, IfOk};
 ghost use Rattle.std.specs.Bool.{Decides};
 ghost use Rattle.braid_word.specs.Sign.{sign_of};
 ghost use Rattle.trace_format.specs.Verdicts.{verdict_of};
-ghost use Rattle.trace_format.specs.TraceLines.{IsLine, IsStepLine};
-ghost use Rattle.trace_check.specs.Checking.{begun_with, kept, kept_short, kept_step, moved, stepped, shown};
-ghost use Rattle.trace_check.specs.Keeping.{Keeps, stop_of};
-ghost use Rattle.trace_check.specs.declared.due.Due.TheVariants.{Start, Left, Right, Step, Witness, Finish};
+ghost use Rattle.ld_term.specs.Written.{HasNoName};
+ghost use Rattle.ld_term.specs.StrictTexts.{as_term};
+ghost use Rattle.ld_term.specs.TreeTexts.{written};
+ghost use Rattle.term_graph.specs.TermLists.{term_at};
+ghost use Rattle.term_eval.specs.Braids.{braid};
+ghost use Rattle.trace_format.specs.Said.{said_by};
+ghost use Rattle.trace_format.specs.TraceLines.{IsShortTerm, IsLine, IsStepLine};
+ghost use Rattle.trace_check.specs.Checking.{begun_with, kept, kept_short, kept_step, moved, stepped, stepped_to, shown};
+ghost use Rattle.trace_check.specs.Keeping.{Keeps, StepsTo, stop_of};
+ghost use Rattle.trace_check.specs.declared.due.Due.TheVariants.{Start, Left, Right, RightTerm, Step, Witness, Finish};
 ghost use Rattle.trace_format.specs.declared.line.LineErr.TheVariants.{Memory};
 
 use crate::MAX_LINE;
@@ -15,7 +21,10 @@ use crate::due::Due;
 use crate::replay::Replay;
 use crate::steps::step_to;
 use braid_word::{Letter, MAX_LETTERS, Word, quotient, sign_of};
+use ld_term::Tree;
 use std::alloc::{AllocError, Global};
+use term_eval::{EvalErr, eval};
+use term_graph::{GraphErr, Names, NodeId, TermGraph};
 use trace_format::{Kind, Line, LineErr, StepLine, Verdict, kind_of, read_line, verdict_of};
 
 /// Why a line isn't kept.
@@ -58,15 +67,46 @@ fn keep_start(line: &[u8]) -> Result<Due, Stop>
     }
 }
 
-// The left word.
+// A term of a trace file in a graph of its own, which has room for one that is so small.
+fn graph_of(alloc: Global, tree: &Tree) -> Result<(TermGraph, NodeId), AllocError>
+    requires nameless { HasNoName (written tree.now) }
+    requires small { IsShortTerm (as_term (written tree.now)) }
+    ensures { IfOk result (λ made. (made.1 < length made.0) × (term_at made.0 made.1 ≡ as_term (written tree.now))) }
+{
+    let mut graph = TermGraph::new(alloc)?;
+    match graph.insert(tree, &Names::new(alloc)) {
+        Ok(number) => Ok((graph, number)),
+        Err(GraphErr::Memory) => Err(AllocError),
+        Err(GraphErr::TooDeep) => unreachable!(),
+        Err(GraphErr::Full) => unreachable!(),
+    }
+}
+
+// The braid word of a term of a trace file.
+fn braid_of(alloc: Global, tree: &Tree) -> Result<Word, Stop>
+    requires nameless { HasNoName (written tree.now) }
+    requires small { IsShortTerm (as_term (written tree.now)) }
+    ensures { StepsTo result (stepped_to (braid (as_term (written tree.now)))) }
+{
+    let (graph, number) = graph_of(alloc, tree)?;
+    match eval(alloc, &graph, number, MAX_LETTERS as u32) {
+        Ok(word) => Ok(word),
+        Err(EvalErr::TooLong { .. }) => Err(Stop::Refused(Why::Long)),
+        Err(EvalErr::Index) => unreachable!(),
+        Err(EvalErr::Memory) => Err(Stop::Memory),
+    }
+}
+
+// The left word, or the left term.
 fn keep_left(alloc: Global, line: &[u8]) -> Result<Due, Stop>
     ensures { Keeps result (kept_short Left line.now) }
 {
-    let Some(Kind::Left) = kind_of(line) else {
+    let Some(Kind::Left | Kind::LeftTerm) = kind_of(line) else {
         return Err(Stop::Refused(Why::Header));
     };
     match read_line(alloc, line)? {
         Line::Left(word) => Ok(Due::Right(word)),
+        Line::LeftTerm(term) => Ok(Due::RightTerm(braid_of(alloc, &term)?)),
         _ => Err(Stop::Refused(Why::Form)),
     }
 }
@@ -100,6 +140,19 @@ fn keep_right(alloc: Global, left: Word, line: &[u8]) -> Result<Due, Stop>
     }
 }
 
+// The right term, behind a left one with this braid word.
+fn keep_right_term(alloc: Global, left: Word, line: &[u8]) -> Result<Due, Stop>
+    ensures { Keeps result (kept_short (RightTerm left) line.now) }
+{
+    let Some(Kind::RightTerm) = kind_of(line) else {
+        return Err(Stop::Refused(Why::Header));
+    };
+    match read_line(alloc, line)? {
+        Line::RightTerm(term) => begin(alloc, left, braid_of(alloc, &term)?),
+        _ => Err(Stop::Refused(Why::Form)),
+    }
+}
+
 // A step of the replay.
 fn keep_move(alloc: Global, replay: Replay, step: StepLine) -> Result<Due, Stop>
     requires { IsStepLine step }
@@ -116,8 +169,8 @@ fn keep_move(alloc: Global, replay: Replay, step: StepLine) -> Result<Due, Stop>
 
 // A step, or the verdict, as the line says it.
 fn keep_said(alloc: Global, replay: Replay, said: Line) -> Result<Due, Stop>
-    requires { IsLine said }
-    ensures { Keeps result (kept_step replay (Ok said)) }
+    requires { IsLine (said_by said) }
+    ensures { Keeps result (kept_step replay (Ok (said_by said))) }
 {
     match said {
         Line::Step(step) => keep_move(alloc, replay, step),
@@ -209,6 +262,7 @@ pub fn keep(alloc: Global, due: Due, line: &[u8]) -> Result<Due, Stop>
         Due::Start => keep_start(line),
         Due::Left => keep_left(alloc, line),
         Due::Right(left) => keep_right(alloc, left, line),
+        Due::RightTerm(left) => keep_right_term(alloc, left, line),
         Due::Step(replay) => keep_step(alloc, replay, line),
         Due::Witness(replay, verdict) => keep_witness(alloc, replay, verdict, line),
         Due::Finish(replay, verdict) => keep_finish(replay, verdict, line),

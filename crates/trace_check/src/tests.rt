@@ -1,5 +1,5 @@
 use crate::{CheckErr, MAX_LINE, Why, check};
-use braid_word::MAX_LETTERS;
+use braid_word::{MAX_LETTERS, read_strict_word};
 use std::alloc::Global;
 use std::test::Fail;
 use trace_format::Verdict;
@@ -7,6 +7,10 @@ use trace_format::Verdict;
 // The trace of the leftmost reduction of `1 2` and `2 1`.
 const TRACE: &str =
     "braid-trace 1\nleft 1 2\nright 2 1\nh 2 4\nh 1 2\nverdict less\nwitness 1 -2\nend\n";
+
+// A trace of two terms that are one by the law t*(u*v) = (t*u)*(t*v).
+const TERMS: &str =
+    "braid-trace 1\nleft-term (x*(x*x))\nright-term ((x*x)*(x*x))\nh 1 3\nh 3 4\nh 2 3\nh 1 2\nverdict equal\nwitness\nend\n";
 
 // What a file is: its verdict and its steps, or the line and the cause of its first refusal.
 fn answer(alloc: Global, file: &[u8]) -> Result<String, Fail> {
@@ -54,7 +58,7 @@ fn accepts_a_trace_and_nothing_else(rt: HostRuntime) -> Result<(), Fail> {
             "refused 9 Extra",
         ),
         ("braid-trace 1\nright 1\n", "refused 2 Header"),
-        ("braid-trace 1\nleft-term x\n", "refused 2 Header"),
+        ("braid-trace 1\nleft-terms x\n", "refused 2 Header"),
         ("braid-trace 1\nleft \n", "refused 2 Form"),
         ("braid-trace 1\r\n", "refused 1 Header"),
         ("braid-trace 2\n", "refused 1 Header"),
@@ -83,6 +87,38 @@ fn accepts_a_trace_and_nothing_else(rt: HostRuntime) -> Result<(), Fail> {
         (
             "braid-trace 1\nleft\nright 1\nverdict less\nwitness 1\nend \n",
             "refused 6 Form",
+        ),
+    ] {
+        let got = answer(alloc, file.as_bytes())?;
+        assert_eq!(rt; got.as_str(), want, "of {file:?}");
+    }
+    Ok(())
+}
+
+#[test]
+fn accepts_a_trace_of_two_terms_and_no_mixed_one(rt: HostRuntime) -> Result<(), Fail> {
+    let alloc = rt.alloc();
+    for (file, want) in [
+        (TERMS, "accepted Equal 4"),
+        (
+            "braid-trace 1\nleft-term x\nright-term (x*x)\nverdict less\nwitness 1\nend\n",
+            "accepted Less 0",
+        ),
+        (
+            "braid-trace 1\nleft-term (x*x)\nright-term x\nverdict less\nwitness -1\nend\n",
+            "refused 5 Sign",
+        ),
+        ("braid-trace 1\nleft 1\nright-term x\n", "refused 3 Header"),
+        ("braid-trace 1\nleft-term x\nright 1\n", "refused 3 Header"),
+        (
+            "braid-trace 1\nleft-term x\nleft-term x\n",
+            "refused 3 Header",
+        ),
+        ("braid-trace 1\nright-term x\n", "refused 2 Header"),
+        ("braid-trace 1\nleft-term x*x\n", "refused 2 Form"),
+        (
+            "braid-trace 1\nleft-term x\nright-term x*x\n",
+            "refused 3 Form",
         ),
     ] {
         let got = answer(alloc, file.as_bytes())?;
@@ -235,25 +271,92 @@ fn refuses_what_is_too_long(rt: HostRuntime) -> Result<(), Fail> {
     Ok(())
 }
 
+// The text of the term of this height whose left parts are all the variable.
+fn high_term(alloc: Global, height: usize) -> Result<Vec<u8>, Fail> {
+    let mut term = Vec::new(alloc);
+    for _ in 0..height {
+        term.extend_from_slice(b"(x*")?;
+    }
+    term.push(b'x')?;
+    for _ in 0..height {
+        term.push(b')')?;
+    }
+    Ok(term)
+}
+
+// The text of the term of this height whose leaves are all at one height: at height h its braid word has
+// (3^h - 1) / 2 letters.
+fn broad_term(alloc: Global, height: usize) -> Result<Vec<u8>, Fail> {
+    let mut term = Vec::from_slice(alloc, b"x")?;
+    for _ in 0..height {
+        let mut square = Vec::from_slice(alloc, b"(")?;
+        square.extend_from_slice(&term)?;
+        square.push(b'*')?;
+        square.extend_from_slice(&term)?;
+        square.push(b')')?;
+        term = square;
+    }
+    Ok(term)
+}
+
+// A file that begins with a left term.
+fn left_term(alloc: Global, term: &[u8]) -> Result<Vec<u8>, Fail> {
+    let mut file = Vec::from_slice(alloc, b"braid-trace 1\nleft-term ")?;
+    file.extend_from_slice(term)?;
+    file.push(b'\n')?;
+    Ok(file)
+}
+
+#[test]
+fn refuses_terms_that_are_too_large(rt: HostRuntime) -> Result<(), Fail> {
+    let alloc = rt.alloc();
+    for (term, want) in [
+        (high_term(alloc, 255)?, "refused 3 Truncated"),
+        (high_term(alloc, 256)?, "refused 2 Long"),
+        (broad_term(alloc, 11)?, "refused 3 Truncated"),
+        (broad_term(alloc, 12)?, "refused 2 Long"),
+    ] {
+        let file = left_term(alloc, &term)?;
+        assert_eq!(rt;
+            answer(alloc, &file)?.as_str(),
+            want,
+            "of {} bytes",
+            term.len()
+        );
+    }
+    let term = broad_term(alloc, 11)?;
+    let mut quotient = left_term(alloc, &term)?;
+    quotient.extend_from_slice(b"right-term ")?;
+    quotient.extend_from_slice(&term)?;
+    quotient.push(b'\n')?;
+    assert_eq!(rt; answer(alloc, &quotient)?.as_str(), "refused 3 Long");
+    Ok(())
+}
+
 #[test]
 fn gives_the_words_of_an_accepted_file(rt: HostRuntime) -> Result<(), Fail> {
+    let alloc = rt.alloc();
+    for (file, left, right, witness) in [
+        (TRACE, "1 2", "2 1", "1 -2"),
+        (TERMS, "2 1", "1 2 1 -2", ""),
+    ] {
+        let checked = check(alloc, file.as_bytes())?;
+        for (got, want) in [
+            (checked.left(), left),
+            (checked.right(), right),
+            (checked.witness(), witness),
+        ] {
+            let want = read_strict_word(alloc, want.as_bytes())?;
+            assert_eq!(rt; got, want.letters(), "of {file:?}");
+        }
+    }
+    Ok(())
+}
+
+#[test]
+fn gives_the_verdict_and_the_steps_of_an_accepted_file(rt: HostRuntime) -> Result<(), Fail> {
     let checked = check(rt.alloc(), TRACE.as_bytes())?;
     assert_eq!(rt; checked.verdict(), Verdict::Less);
     assert_eq!(rt; checked.steps(), 2);
-    let left = format!(in rt.alloc(); "{:?}", checked.left())?;
-    assert_eq!(rt;
-        left.as_str(),
-        "[Letter { index: 1, negative: false }, Letter { index: 2, negative: false }]"
-    );
-    let right = format!(in rt.alloc(); "{:?}", checked.right())?;
-    assert_eq!(rt;
-        right.as_str(),
-        "[Letter { index: 2, negative: false }, Letter { index: 1, negative: false }]"
-    );
-    let witness = format!(in rt.alloc(); "{:?}", checked.witness())?;
-    assert_eq!(rt;
-        witness.as_str(),
-        "[Letter { index: 1, negative: false }, Letter { index: 2, negative: true }]"
-    );
     Ok(())
 }

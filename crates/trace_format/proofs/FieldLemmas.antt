@@ -25,7 +25,7 @@ use Rattle.trace_format.specs.declared.line.StepLine.TheVariants.{Handle, Insert
 use Rattle.trace_format.specs.declared.line.LineErr.{LineErr}
 use Rattle.trace_format.specs.declared.line.LineErr.TheVariants.{Form}
 use Rattle.trace_format.specs.TraceText.{word_field, verdict_word}
-use Rattle.trace_format.specs.TraceLines.{strict_result, field_word, placed_by, place_at, said, only_place, two_places, letter_alone, only_letter, place_and_letter, verdict_by, IsPlace}
+use Rattle.trace_format.specs.TraceLines.{strict_result, field_word, placed_by, place_at, made_of, only_place, two_places, letter_alone, only_letter, place_and_letter, verdict_by, IsPlace}
 use Rattle.trace_format.proofs.TraceLemmas.{word_field-some}
 
 -- What can stand behind a keyword: nothing, or a space and more.
@@ -158,12 +158,12 @@ place_at-decimal p rest place none =
 -- ---- Steps ----
 
 -- what is made of a part has a part that was read
-pub said-Ok
+pub made_of-Ok
     : {X Y : Type 0} (f : X → Y) (read : Result X LineErr) (y : Y)
-    → said f read ≡ Ok y
+    → made_of f read ≡ Ok y
     → (x : X) × (read ≡ Ok x) × (f x ≡ y)
-said-Ok f (Ok x) y is = (x, refl, Ok-injective _ _ is)
-said-Ok f (Err e) y is = absurd (cc)
+made_of-Ok f (Ok x) y is = (x, refl, Ok-injective _ _ is)
+made_of-Ok f (Err e) y is = absurd (cc)
 
 -- What some bytes are where a place alone was read.
 pub record IsOnlyPlace (behind : List ℕ) (p : ℕ) : Type 0 where
@@ -220,7 +220,7 @@ two_places-by
 two_places-by behind None step read is = absurd (cc)
 two_places-by behind (Some (p, rest)) step read is =
     let (text, place) = place_at-is behind p rest read in
-    let (q, found, same) = said-Ok (Handle p) (only_place (place_at rest)) step is in
+    let (q, found, same) = made_of-Ok (Handle p) (only_place (place_at rest)) step is in
     let last = only_place-is rest q found in
     record {
       start = p;
@@ -245,7 +245,7 @@ pub two_places-places_text
     → two_places (place_at (places_text p q)) ≡ Ok (Handle p q)
 two_places-places_text p q first last =
     ap two_places (place_at-decimal p (32 ∷ decimal q) first refl)
-    ∙ ap (said (Handle p)) (only_place-decimal q last)
+    ∙ ap (made_of (Handle p)) (only_place-decimal q last)
 
 -- a word that gives its letter has one
 letter_alone-is
@@ -308,7 +308,7 @@ place_and_letter-by
 place_and_letter-by behind None step read is = absurd (cc)
 place_and_letter-by behind (Some (p, rest)) step read is =
     let (text, place) = place_at-is behind p rest read in
-    let (x, found, same) = said-Ok (Insert p) (only_letter rest) step is in
+    let (x, found, same) = made_of-Ok (Insert p) (only_letter rest) step is in
     let last = only_letter-is rest x found in
     record {
       place = p;
@@ -333,7 +333,7 @@ pub place_and_letter-insertion_text
     → place_and_letter (place_at (insertion_text p x)) ≡ Ok (Insert p x)
 place_and_letter-insertion_text p x place on =
     ap place_and_letter (place_at-decimal p (next_text x) place refl)
-    ∙ ap (said (Insert p)) (only_letter-next_text x on)
+    ∙ ap (made_of (Insert p)) (only_letter-next_text x on)
 
 -- ---- Verdicts ----
 

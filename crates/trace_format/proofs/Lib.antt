@@ -1,4 +1,5 @@
 pub mod TraceLemmas
 pub mod FieldLemmas
+pub mod TermFieldLemmas
 pub mod LineLaws
 pub mod TraceLaws

@@ -21,14 +21,18 @@ use Rattle.trace_format.specs.declared.verdict.Verdict.TheVariants.{Less, Equal,
 use Rattle.trace_format.specs.declared.line.StepLine.{StepLine}
 use Rattle.trace_format.specs.declared.line.StepLine.TheVariants.{Handle, Commute, Swap, Delete, Insert}
 use Rattle.trace_format.specs.declared.line.Line.{Line}
-use Rattle.trace_format.specs.declared.line.Line.TheVariants as lines
+use Rattle.trace_format.specs.Said.{Said, said_by, IsNameless}
+use Rattle.trace_format.specs.Said as said
 use Rattle.trace_format.specs.declared.line.LineErr.{LineErr}
-use Rattle.trace_format.specs.TraceLines.{keyword_of, behind_keyword, keyword_by, kind_named, kind_by, kind_of, field_word, place_at, only_place, two_places, place_and_letter, verdict_by, said, line_by, Gives, line_of, line_text, IsPlace, IsStepLine, IsLine}
+use Rattle.trace_format.specs.TraceLines.{keyword_of, behind_keyword, keyword_by, kind_named, kind_by, kind_of, field_word, field_term, place_at, only_place, two_places, place_and_letter, verdict_by, made_of, line_by, Reads, line_of, line_text, IsShortTerm, IsPlace, IsStepLine, IsLine}
 use Rattle.trace_format.specs.TraceText.{word_field, step_text, verdict_word}
+use Rattle.ld_term.specs.Terms.{Term}
+use Rattle.ld_term.specs.StrictTexts.{strict_text}
 use Rattle.braid_word.specs.Words.{Letter}
 use Rattle.braid_word.specs.Notation.{IsReadable, letter_text, next_text, word_text}
 use Rattle.braid_word.proofs.SpellingLemmas.{Ok-cond, Ok-injective, AllAbove, AllAbove-lower, decimal-above, word_text-above}
-use Rattle.trace_format.proofs.FieldLemmas.{IsBehind, field_word-is, field_word-word_field, IsBehind-word_field, said-Ok, places_text, insertion_text, word_text-one, only_place-is, only_place-decimal, two_places-is, two_places-places_text, place_and_letter-is, place_and_letter-insertion_text, verdict_by-is, verdict_by-verdict_word}
+use Rattle.trace_format.proofs.TermFieldLemmas.{field_term-is, field_term-strict_text, strict_text-above}
+use Rattle.trace_format.proofs.FieldLemmas.{IsBehind, field_word-is, field_word-word_field, IsBehind-word_field, made_of-Ok, places_text, insertion_text, word_text-one, only_place-is, only_place-decimal, two_places-is, two_places-places_text, place_and_letter-is, place_and_letter-insertion_text, verdict_by-is, verdict_by-verdict_word}
 
 -- ---- Keywords ----
 
@@ -106,6 +110,8 @@ abbrev keyword_text : Keyword → List ℕ
 keyword_text words.Start = codes "braid-trace"
 keyword_text words.Left = codes "left"
 keyword_text words.Right = codes "right"
+keyword_text words.LeftTerm = codes "left-term"
+keyword_text words.RightTerm = codes "right-term"
 keyword_text words.Handle = codes "h"
 keyword_text words.Commute = codes "c"
 keyword_text words.Swap = codes "s"
@@ -147,15 +153,19 @@ keyword_by-is text word named =
     (λ named. cond-keyword text words.Start _ word named
     (λ named. cond-keyword text words.Left _ word named
     (λ named. cond-keyword text words.Right _ word named
+    (λ named. cond-keyword text words.LeftTerm _ word named
+    (λ named. cond-keyword text words.RightTerm _ word named
     (λ named. cond-keyword text words.Verdict _ word named
     (λ named. cond-keyword text words.Witness _ word named
-    (λ named. cond-keyword text words.Finish None word named (λ none. absurd (cc))))))))))))
+    (λ named. cond-keyword text words.Finish None word named (λ none. absurd (cc))))))))))))))
 
 -- each keyword is known by its text
 keyword_by-keyword_text : (word : Keyword) → keyword_by (keyword_text word) ≡ Some word
 keyword_by-keyword_text words.Start = refl
 keyword_by-keyword_text words.Left = refl
 keyword_by-keyword_text words.Right = refl
+keyword_by-keyword_text words.LeftTerm = refl
+keyword_by-keyword_text words.RightTerm = refl
 keyword_by-keyword_text words.Handle = refl
 keyword_by-keyword_text words.Commute = refl
 keyword_by-keyword_text words.Swap = refl
@@ -170,6 +180,8 @@ no_space-keyword_text : (word : Keyword) → no_space (keyword_text word) ≡ tr
 no_space-keyword_text words.Start = refl
 no_space-keyword_text words.Left = refl
 no_space-keyword_text words.Right = refl
+no_space-keyword_text words.LeftTerm = refl
+no_space-keyword_text words.RightTerm = refl
 no_space-keyword_text words.Handle = refl
 no_space-keyword_text words.Commute = refl
 no_space-keyword_text words.Swap = refl
@@ -206,71 +218,91 @@ kind_of-append
 kind_of-append word behind spaced = ap kind_by (keyword_by-append word behind spaced)
 
 -- The kind of a line, by what it says.
-abbrev pub kind_said : Line → Kind
-kind_said lines.Start = kinds.Start
-kind_said (lines.Left w) = kinds.Left
-kind_said (lines.Right w) = kinds.Right
-kind_said (lines.Step step) = kinds.Step
-kind_said (lines.Verdict v) = kinds.Verdict
-kind_said (lines.Witness w) = kinds.Witness
-kind_said lines.Finish = kinds.Finish
+abbrev pub kind_said : Said → Kind
+kind_said said.start = kinds.Start
+kind_said (said.left w) = kinds.Left
+kind_said (said.right w) = kinds.Right
+kind_said (said.left_term t) = kinds.LeftTerm
+kind_said (said.right_term t) = kinds.RightTerm
+kind_said (said.step step) = kinds.Step
+kind_said (said.verdict v) = kinds.Verdict
+kind_said (said.witness w) = kinds.Witness
+kind_said said.finish = kinds.Finish
 
 -- the text of what a line says is a line of its kind
-pub kind_of-line_text : (l : Line) → kind_of (line_text l) ≡ Some (kind_said l)
-kind_of-line_text lines.Start = kind_of-append words.Start (codes " 1") refl
-kind_of-line_text (lines.Left w) = kind_of-append words.Left (word_field w) (IsBehind-word_field w)
-kind_of-line_text (lines.Right w) = kind_of-append words.Right (word_field w) (IsBehind-word_field w)
-kind_of-line_text (lines.Step (Handle p q)) = kind_of-append words.Handle (places_text p q) refl
-kind_of-line_text (lines.Step (Commute p)) = kind_of-append words.Commute (32 ∷ decimal p) refl
-kind_of-line_text (lines.Step (Swap p)) = kind_of-append words.Swap (32 ∷ decimal p) refl
-kind_of-line_text (lines.Step (Delete p)) = kind_of-append words.Delete (32 ∷ decimal p) refl
-kind_of-line_text (lines.Step (Insert p x)) = kind_of-append words.Insert (insertion_text p x) refl
-kind_of-line_text (lines.Verdict v) = kind_of-append words.Verdict (32 ∷ verdict_word v) refl
-kind_of-line_text (lines.Witness w) =
+pub kind_of-line_text : (l : Said) → kind_of (line_text l) ≡ Some (kind_said l)
+kind_of-line_text said.start = kind_of-append words.Start (codes " 1") refl
+kind_of-line_text (said.left w) = kind_of-append words.Left (word_field w) (IsBehind-word_field w)
+kind_of-line_text (said.right w) = kind_of-append words.Right (word_field w) (IsBehind-word_field w)
+kind_of-line_text (said.left_term t) = kind_of-append words.LeftTerm (32 ∷ strict_text t) refl
+kind_of-line_text (said.right_term t) = kind_of-append words.RightTerm (32 ∷ strict_text t) refl
+kind_of-line_text (said.step (Handle p q)) = kind_of-append words.Handle (places_text p q) refl
+kind_of-line_text (said.step (Commute p)) = kind_of-append words.Commute (32 ∷ decimal p) refl
+kind_of-line_text (said.step (Swap p)) = kind_of-append words.Swap (32 ∷ decimal p) refl
+kind_of-line_text (said.step (Delete p)) = kind_of-append words.Delete (32 ∷ decimal p) refl
+kind_of-line_text (said.step (Insert p x)) = kind_of-append words.Insert (insertion_text p x) refl
+kind_of-line_text (said.verdict v) = kind_of-append words.Verdict (32 ∷ verdict_word v) refl
+kind_of-line_text (said.witness w) =
     kind_of-append words.Witness (word_field w) (IsBehind-word_field w)
-kind_of-line_text lines.Finish = kind_of-append words.Finish [] tt
+kind_of-line_text said.finish = kind_of-append words.Finish [] tt
 
 -- ---- What is read is spelled so ----
 
 -- What a line is where something was read: its text.
-pub record IsText (line : List ℕ) (l : Line) : Type 0 where
+pub record IsText (line : List ℕ) (l : Said) : Type 0 where
   pub text : line ≡ line_text l
   pub bounds : IsLine l
 
 -- what is said is spelled so where what was read is
-said-is
-    : {X : Type 0} (say : X → Line) (read : Result X LineErr) (line : List ℕ) (l : Line)
+made_of-is
+    : {X : Type 0} (say : X → Said) (read : Result X LineErr) (line : List ℕ) (l : Said)
     → ((x : X) → read ≡ Ok x → IsText line (say x))
-    → said say read ≡ Ok l
+    → made_of say read ≡ Ok l
     → IsText line l
-said-is say read line l text is =
-    let (x, found, same) = said-Ok say read l is in subst (IsText line) same (text x found)
+made_of-is say read line l text is =
+    let (x, found, same) = made_of-Ok say read l is in subst (IsText line) same (text x found)
 
 -- the same of a word behind a keyword
-said-field_word
-    : (say : List Letter → Line) (word behind : List ℕ) (l : Line)
+made_of-field_word
+    : (say : List Letter → Said) (word behind : List ℕ) (l : Said)
     → ((w : List Letter) → line_text (say w) ≡ word ++ word_field w)
     → ((w : List Letter) → IsReadable w → IsLine (say w))
     → IsBehind behind
-    → said say (field_word behind) ≡ Ok l
+    → made_of say (field_word behind) ≡ Ok l
     → IsText (word ++ behind) l
-said-field_word say word behind l text bounds spaced =
-    said-is say (field_word behind) (word ++ behind) l (λ w read.
+made_of-field_word say word behind l text bounds spaced =
+    made_of-is say (field_word behind) (word ++ behind) l (λ w read.
     let field = field_word-is behind w spaced read in
     record {
       text = ap (λ more. word ++ more) field.text ∙ sym (text w);
       bounds = bounds w field.readable;
     })
 
+-- the same of a term behind a keyword
+made_of-field_term
+    : (say : Term → Said) (word behind : List ℕ) (l : Said)
+    → ((t : Term) → line_text (say t) ≡ word ++ (32 ∷ strict_text t))
+    → ((t : Term) → IsShortTerm t → IsLine (say t))
+    → IsBehind behind
+    → made_of say (field_term behind) ≡ Ok l
+    → IsText (word ++ behind) l
+made_of-field_term say word behind l text bounds spaced =
+    made_of-is say (field_term behind) (word ++ behind) l (λ t read.
+    let field = field_term-is behind t spaced read in
+    record {
+      text = ap (λ more. word ++ more) field.text ∙ sym (text t);
+      bounds = bounds t field.small;
+    })
+
 -- the same of the one place of a step
-said-only_place
-    : (step : ℕ → StepLine) (word behind : List ℕ) (l : Line)
+made_of-only_place
+    : (step : ℕ → StepLine) (word behind : List ℕ) (l : Said)
     → ((p : ℕ) → step_text (step p) ≡ word ++ (32 ∷ decimal p))
     → ((p : ℕ) → IsPlace p → IsStepLine (step p))
-    → said (λ p. lines.Step (step p)) (only_place (place_at behind)) ≡ Ok l
+    → made_of (λ p. said.step (step p)) (only_place (place_at behind)) ≡ Ok l
     → IsText (word ++ behind) l
-said-only_place step word behind l text bounds =
-    said-is (λ p. lines.Step (step p)) (only_place (place_at behind)) (word ++ behind) l (λ p read.
+made_of-only_place step word behind l text bounds =
+    made_of-is (λ p. said.step (step p)) (only_place (place_at behind)) (word ++ behind) l (λ p read.
     let place = only_place-is behind p read in
     record {
       text = ap (λ more. word ++ more) place.text ∙ sym (text p);
@@ -279,7 +311,7 @@ said-only_place step word behind l text bounds =
 
 -- what is read of a line with a keyword is spelled so
 line_by-is
-    : (word : Keyword) (behind : List ℕ) (l : Line)
+    : (word : Keyword) (behind : List ℕ) (l : Said)
     → IsBehind behind
     → line_by (Some word) behind ≡ Ok l
     → IsText (keyword_text word ++ behind) l
@@ -291,38 +323,44 @@ line_by-is words.Start behind l spaced read =
       bounds = tt;
     })
 line_by-is words.Left behind l spaced read =
-    said-field_word lines.Left (codes "left") behind l (λ w. refl) (λ w bounds. bounds)
+    made_of-field_word said.left (codes "left") behind l (λ w. refl) (λ w bounds. bounds)
     spaced read
 line_by-is words.Right behind l spaced read =
-    said-field_word lines.Right (codes "right") behind l (λ w. refl) (λ w bounds. bounds)
+    made_of-field_word said.right (codes "right") behind l (λ w. refl) (λ w bounds. bounds)
+    spaced read
+line_by-is words.LeftTerm behind l spaced read =
+    made_of-field_term said.left_term (codes "left-term") behind l (λ t. refl) (λ t small. small)
+    spaced read
+line_by-is words.RightTerm behind l spaced read =
+    made_of-field_term said.right_term (codes "right-term") behind l (λ t. refl) (λ t small. small)
     spaced read
 line_by-is words.Handle behind l spaced read =
-    said-is lines.Step (two_places (place_at behind)) (codes "h" ++ behind) l (λ step found.
+    made_of-is said.step (two_places (place_at behind)) (codes "h" ++ behind) l (λ step found.
     let places = two_places-is behind step found in
-    subst (λ step. IsText (codes "h" ++ behind) (lines.Step step)) places.is (record {
+    subst (λ step. IsText (codes "h" ++ behind) (said.step step)) places.is (record {
       text = ap (λ more. codes "h" ++ more) places.text;
       bounds = (places.first, places.last);
     })) read
 line_by-is words.Commute behind l spaced read =
-    said-only_place Commute (codes "c") behind l (λ p. refl) (λ p place. place) read
+    made_of-only_place Commute (codes "c") behind l (λ p. refl) (λ p place. place) read
 line_by-is words.Swap behind l spaced read =
-    said-only_place Swap (codes "s") behind l (λ p. refl) (λ p place. place) read
+    made_of-only_place Swap (codes "s") behind l (λ p. refl) (λ p place. place) read
 line_by-is words.Delete behind l spaced read =
-    said-only_place Delete (codes "d") behind l (λ p. refl) (λ p place. place) read
+    made_of-only_place Delete (codes "d") behind l (λ p. refl) (λ p place. place) read
 line_by-is words.Insert behind l spaced read =
-    said-is lines.Step (place_and_letter (place_at behind)) (codes "i" ++ behind) l (λ step found.
+    made_of-is said.step (place_and_letter (place_at behind)) (codes "i" ++ behind) l (λ step found.
     let parts = place_and_letter-is behind step found in
-    subst (λ step. IsText (codes "i" ++ behind) (lines.Step step)) parts.is (record {
+    subst (λ step. IsText (codes "i" ++ behind) (said.step step)) parts.is (record {
       text = ap (λ more. codes "i" ++ more) parts.text;
       bounds = (parts.within, parts.on);
     })) read
 line_by-is words.Verdict behind l spaced read =
-    said-is lines.Verdict (verdict_by behind) (codes "verdict" ++ behind) l (λ v found. record {
+    made_of-is said.verdict (verdict_by behind) (codes "verdict" ++ behind) l (λ v found. record {
       text = ap (λ more. codes "verdict" ++ more) (verdict_by-is behind v found);
       bounds = tt;
     }) read
 line_by-is words.Witness behind l spaced read =
-    said-field_word lines.Witness (codes "witness") behind l (λ w. refl) (λ w bounds. bounds)
+    made_of-field_word said.witness (codes "witness") behind l (λ w. refl) (λ w bounds. bounds)
     spaced read
 line_by-is words.Finish behind l spaced read =
     let (test, is) = Ok-cond _ _ _ _ read in
@@ -333,7 +371,7 @@ line_by-is words.Finish behind l spaced read =
     })
 
 -- what is read of a line is spelled so
-pub line_of-is : (line : List ℕ) (l : Line) → line_of line ≡ Ok l → IsText line l
+pub line_of-is : (line : List ℕ) (l : Said) → line_of line ≡ Ok l → IsText line l
 unfolding line_of
 line_of-is line l read = go (keyword_by (keyword_of line)) refl read
   where
@@ -351,46 +389,54 @@ line_of-is line l read = go (keyword_by (keyword_of line)) refl read
         (line_by-is word (behind_keyword line) l (IsBehind-behind_keyword line) is)
 
 -- so is what a reader answers
-pub IfOk-gives
+pub IfOk-reads
     : (line : List ℕ) (result : Result Line LineErr)
-    → Gives result (line_of line)
-    → IfOk result (λ l. (line ≡ line_text l) × IsLine l)
-IfOk-gives line (Ok l) read = let is = line_of-is line l read in (is.text, is.bounds)
-IfOk-gives line (Err e) read = tt
+    → Reads result (line_of line)
+    → IfOk result IsNameless
+    → IfOk result (λ l. (line ≡ line_text (said_by l)) × IsLine (said_by l) × IsNameless l)
+IfOk-reads line (Ok l) read nameless =
+    let is = line_of-is line (said_by l) read in (is.text, is.bounds, nameless)
+IfOk-reads line (Err e) read nameless = tt
 
 -- ---- What is spelled so is read ----
 
 -- what can be said by a line is read from its text
-pub line_of-line_text : (l : Line) → IsLine l → line_of (line_text l) ≡ Ok l
-line_of-line_text lines.Start is = line_of-append words.Start (codes " 1") refl
-line_of-line_text (lines.Left w) is =
+pub line_of-line_text : (l : Said) → IsLine l → line_of (line_text l) ≡ Ok l
+line_of-line_text said.start is = line_of-append words.Start (codes " 1") refl
+line_of-line_text (said.left w) is =
     line_of-append words.Left (word_field w) (IsBehind-word_field w)
-    ∙ ap (said lines.Left) (field_word-word_field w is)
-line_of-line_text (lines.Right w) is =
+    ∙ ap (made_of said.left) (field_word-word_field w is)
+line_of-line_text (said.right w) is =
     line_of-append words.Right (word_field w) (IsBehind-word_field w)
-    ∙ ap (said lines.Right) (field_word-word_field w is)
-line_of-line_text (lines.Step (Handle p q)) is =
+    ∙ ap (made_of said.right) (field_word-word_field w is)
+line_of-line_text (said.left_term t) is =
+    line_of-append words.LeftTerm (32 ∷ strict_text t) refl
+    ∙ ap (made_of said.left_term) (field_term-strict_text 32 t is)
+line_of-line_text (said.right_term t) is =
+    line_of-append words.RightTerm (32 ∷ strict_text t) refl
+    ∙ ap (made_of said.right_term) (field_term-strict_text 32 t is)
+line_of-line_text (said.step (Handle p q)) is =
     line_of-append words.Handle (places_text p q) refl
-    ∙ ap (said lines.Step) (two_places-places_text p q is.0 is.1)
-line_of-line_text (lines.Step (Commute p)) is =
+    ∙ ap (made_of said.step) (two_places-places_text p q is.0 is.1)
+line_of-line_text (said.step (Commute p)) is =
     line_of-append words.Commute (32 ∷ decimal p) refl
-    ∙ ap (said (λ p. lines.Step (Commute p))) (only_place-decimal p is)
-line_of-line_text (lines.Step (Swap p)) is =
+    ∙ ap (made_of (λ p. said.step (Commute p))) (only_place-decimal p is)
+line_of-line_text (said.step (Swap p)) is =
     line_of-append words.Swap (32 ∷ decimal p) refl
-    ∙ ap (said (λ p. lines.Step (Swap p))) (only_place-decimal p is)
-line_of-line_text (lines.Step (Delete p)) is =
+    ∙ ap (made_of (λ p. said.step (Swap p))) (only_place-decimal p is)
+line_of-line_text (said.step (Delete p)) is =
     line_of-append words.Delete (32 ∷ decimal p) refl
-    ∙ ap (said (λ p. lines.Step (Delete p))) (only_place-decimal p is)
-line_of-line_text (lines.Step (Insert p x)) is =
+    ∙ ap (made_of (λ p. said.step (Delete p))) (only_place-decimal p is)
+line_of-line_text (said.step (Insert p x)) is =
     line_of-append words.Insert (insertion_text p x) refl
-    ∙ ap (said lines.Step) (place_and_letter-insertion_text p x is.0 is.1)
-line_of-line_text (lines.Verdict v) is =
+    ∙ ap (made_of said.step) (place_and_letter-insertion_text p x is.0 is.1)
+line_of-line_text (said.verdict v) is =
     line_of-append words.Verdict (32 ∷ verdict_word v) refl
-    ∙ ap (said lines.Verdict) (verdict_by-verdict_word v)
-line_of-line_text (lines.Witness w) is =
+    ∙ ap (made_of said.verdict) (verdict_by-verdict_word v)
+line_of-line_text (said.witness w) is =
     line_of-append words.Witness (word_field w) (IsBehind-word_field w)
-    ∙ ap (said lines.Witness) (field_word-word_field w is)
-line_of-line_text lines.Finish is = line_of-append words.Finish [] tt
+    ∙ ap (made_of said.witness) (field_word-word_field w is)
+line_of-line_text said.finish is = line_of-append words.Finish [] tt
 
 -- ---- A text is one line ----
 
@@ -442,23 +488,27 @@ step_text-above (Insert p x) bounds =
     (All-cons (λ b. 31 < b) 32 (letter_text x) (omega arith) letter))
 
 -- no byte of a line's text is below the space
-line_text-above : (l : Line) → IsLine l → AllAbove 31 (line_text l)
-line_text-above lines.Start is = above-list_all 31 (codes "braid-trace 1") refl
-line_text-above (lines.Left w) is =
+line_text-above : (l : Said) → IsLine l → AllAbove 31 (line_text l)
+line_text-above said.start is = above-list_all 31 (codes "braid-trace 1") refl
+line_text-above (said.left w) is =
     above-append (codes "left") (word_field w) refl (word_field-above w is)
-line_text-above (lines.Right w) is =
+line_text-above (said.right w) is =
     above-append (codes "right") (word_field w) refl (word_field-above w is)
-line_text-above (lines.Step step) is = step_text-above step is
-line_text-above (lines.Verdict Less) is = above-list_all 31 (codes "verdict less") refl
-line_text-above (lines.Verdict Equal) is = above-list_all 31 (codes "verdict equal") refl
-line_text-above (lines.Verdict Greater) is = above-list_all 31 (codes "verdict greater") refl
-line_text-above (lines.Witness w) is =
+line_text-above (said.left_term t) is =
+    above-append (codes "left-term ") (strict_text t) refl (strict_text-above t)
+line_text-above (said.right_term t) is =
+    above-append (codes "right-term ") (strict_text t) refl (strict_text-above t)
+line_text-above (said.step step) is = step_text-above step is
+line_text-above (said.verdict Less) is = above-list_all 31 (codes "verdict less") refl
+line_text-above (said.verdict Equal) is = above-list_all 31 (codes "verdict equal") refl
+line_text-above (said.verdict Greater) is = above-list_all 31 (codes "verdict greater") refl
+line_text-above (said.witness w) is =
     above-append (codes "witness") (word_field w) refl (word_field-above w is)
-line_text-above lines.Finish is = above-list_all 31 (codes "end") refl
+line_text-above said.finish is = above-list_all 31 (codes "end") refl
 
 -- no byte of a line's text is an LF
 pub line_text-no_lf
-    : (l : Line)
+    : (l : Said)
     → IsLine l
     → (k : ℕ)
     → k < length (line_text l)

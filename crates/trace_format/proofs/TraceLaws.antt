@@ -10,37 +10,48 @@ use Rattle.wb_base.specs.Lines.{lines_of, line}
 use Rattle.wb_base.proofs.LineLemmas.{HasNoLf, lines_of-flat_map}
 use Rattle.braid_word.specs.Words.{Letter}
 use Rattle.braid_word.proofs.SpellingLemmas.{Ok-injective}
+use Rattle.ld_term.specs.Terms.{Term}
+use Rattle.ld_term.specs.StrictTexts.{strict_text}
 use Rattle.trace_format.specs.declared.verdict.Verdict.{Verdict}
 use Rattle.trace_format.specs.declared.line.StepLine.{StepLine}
-use Rattle.trace_format.specs.declared.line.Line.{Line}
-use Rattle.trace_format.specs.declared.line.Line.TheVariants as lines
-use Rattle.trace_format.specs.TraceText.{Trace, word_field, step_line, verdict_word, head_text, tail_text, trace_text}
-use Rattle.trace_format.specs.TraceLines.{line_of, line_text, IsStepLine, IsLine, IsTrace}
+use Rattle.trace_format.specs.Said.{Said}
+use Rattle.trace_format.specs.Said as said
+use Rattle.trace_format.specs.TraceText.{Header, words, terms, Trace, word_field, step_line, verdict_word, head_text, tail_text, trace_text, term_trace_text}
+use Rattle.trace_format.specs.TraceLines.{line_of, line_text, IsStepLine, IsLine, IsHeader, IsTrace}
 use Rattle.trace_format.proofs.LineLaws.{line_of-line_text, line_text-no_lf}
 
 -- ---- The lines of a trace ----
 
 -- The lines behind the steps.
-abbrev pub tail_lines : Verdict → List Letter → List Line
-tail_lines verdict witness = lines.Verdict verdict ∷ lines.Witness witness ∷ lines.Finish ∷ []
+abbrev pub tail_lines : Verdict → List Letter → List Said
+tail_lines verdict witness = said.verdict verdict ∷ said.witness witness ∷ said.finish ∷ []
 
 -- The lines of the steps, and those behind them.
-abbrev pub step_lines : List StepLine → List Line → List Line
-step_lines steps tail = map lines.Step steps ++ tail
+abbrev pub step_lines : List StepLine → List Said → List Said
+step_lines steps tail = map said.step steps ++ tail
+
+-- The left and the right line.
+abbrev pub left_line : Header → Said
+left_line (words u v) = said.left u
+left_line (terms t u) = said.left_term t
+
+abbrev pub right_line : Header → Said
+right_line (words u v) = said.right v
+right_line (terms t u) = said.right_term u
 
 -- The lines of a trace, from the first to the last.
-abbrev pub trace_lines : Trace → List Line
+abbrev pub trace_lines : Trace → List Said
 trace_lines t =
-    lines.Start ∷ lines.Left t.left ∷ lines.Right t.right
+    said.start ∷ left_line t.header ∷ right_line t.header
     ∷ step_lines t.steps (tail_lines t.verdict t.witness)
 
 -- The texts of some lines, each with its LF.
-abbrev pub lines_text : List Line → List ℕ
+abbrev pub lines_text : List Said → List ℕ
 lines_text all = flat_map line (map line_text all)
 
 -- the text of steps and of the lines behind them
 lines_text-step_lines
-    : (steps : List StepLine) (tail : List Line)
+    : (steps : List StepLine) (tail : List Said)
     → lines_text (step_lines steps tail) ≡ flat_map step_line steps ++ lines_text tail
 lines_text-step_lines [] tail = refl
 lines_text-step_lines (step ∷ steps) tail =
@@ -64,43 +75,80 @@ lines_text-tail_lines verdict witness =
     sym (append_assoc-three shown seen (line (codes "end")) [])
     ∙ append-nil (tail_text verdict witness)
 
+-- the text of the lines before the steps
+pub head_text-lines
+    : (h : Header)
+    → head_text h
+    ≡ line (codes "braid-trace 1") ++ line (line_text (left_line h)) ++ line (line_text (right_line h))
+head_text-lines (words u v) = refl
+head_text-lines (terms t u) = refl
+
 -- the text of a trace is that of its lines
 pub trace_text-lines : (t : Trace) → trace_text t ≡ flat_map line (map line_text (trace_lines t))
 unfolding trace_text
 trace_text-lines t =
     let start = line (codes "braid-trace 1") in
-    let left = line (codes "left" ++ word_field t.left) in
-    let right = line (codes "right" ++ word_field t.right) in
+    let left = line (line_text (left_line t.header)) in
+    let right = line (line_text (right_line t.header)) in
     let steps = flat_map step_line t.steps in
     let tail = tail_text t.verdict t.witness in
     let rest : steps ++ tail ≡ lines_text (step_lines t.steps (tail_lines t.verdict t.witness))
     = ap (λ more. steps ++ more) (sym (lines_text-tail_lines t.verdict t.witness))
     ∙ sym (lines_text-step_lines t.steps (tail_lines t.verdict t.witness)) in
-    append_assoc (head_text t.left t.right) steps tail
+    append_assoc (head_text t.header) steps tail
+    ∙ ap (λ head. head ++ (steps ++ tail)) (head_text-lines t.header)
     ∙ append_assoc-three start left right (steps ++ tail)
     ∙ ap (λ more. start ++ (left ++ (right ++ more))) rest
+
+-- what is written of two terms by their strict texts is the text of their trace
+pub term_trace_text-strict_text
+    : (t u : Term) (steps : List StepLine) (verdict : Verdict) (witness : List Letter)
+    → term_trace_text (record {
+      left = strict_text t;
+      right = strict_text u;
+      steps = steps;
+      verdict = verdict;
+      witness = witness;
+    })
+    ≡ trace_text (record { header = terms t u; steps = steps; verdict = verdict; witness = witness })
+unfolding trace_text term_trace_text
+term_trace_text-strict_text t u steps verdict witness = refl
 
 -- ---- The text is cut into its lines ----
 
 -- steps and lines behind them can be said
 IsLine-step_lines
-    : (steps : List StepLine) (tail : List Line)
+    : (steps : List StepLine) (tail : List Said)
     → AllByRecursion IsStepLine steps
     → AllByRecursion IsLine tail
     → AllByRecursion IsLine (step_lines steps tail)
 IsLine-step_lines [] tail is rest = rest
 IsLine-step_lines (step ∷ steps) tail is rest = (is.0, IsLine-step_lines steps tail is.1 rest)
 
+-- so can the left and the right line
+pub IsLine-left_line : (h : Header) → IsHeader h → IsLine (left_line h)
+IsLine-left_line (words u v) is = is.0
+IsLine-left_line (terms t u) is = is.0
+
+pub IsLine-right_line : (h : Header) → IsHeader h → IsLine (right_line h)
+IsLine-right_line (words u v) is = is.1
+IsLine-right_line (terms t u) is = is.1
+
 -- the lines of a trace can be said
 IsLine-trace_lines : (t : Trace) → IsTrace t → AllByRecursion IsLine (trace_lines t)
 IsLine-trace_lines t is =
     let last = tail_lines t.verdict t.witness in
-    let tail : AllByRecursion IsLine last = (tt, (is.witness, (tt, tt))) in
-    (tt, (is.left, (is.right, IsLine-step_lines t.steps last is.steps tail)))
+    let tail : AllByRecursion IsLine last = (tt, (is.witness, (tt, tt))) in (
+      tt,
+      (
+        IsLine-left_line t.header is.header,
+        (IsLine-right_line t.header is.header, IsLine-step_lines t.steps last is.steps tail),
+      ),
+    )
 
 -- no text of lines has an LF
 HasNoLf-line_text
-    : (all : List Line)
+    : (all : List Said)
     → AllByRecursion IsLine all
     → AllByRecursion HasNoLf (map line_text all)
 HasNoLf-line_text [] is = tt
@@ -120,7 +168,7 @@ lines_of-trace_text t is =
 
 -- a line is known by its text
 line_text-injective
-    : (l m : Line)
+    : (l m : Said)
     → IsLine l
     → IsLine m
     → line_text l ≡ line_text m
@@ -131,7 +179,7 @@ line_text-injective l m first second same =
 
 -- so are several
 map-line_text-injective
-    : (all others : List Line)
+    : (all others : List Said)
     → AllByRecursion IsLine all
     → AllByRecursion IsLine others
     → map line_text all ≡ map line_text others
@@ -168,24 +216,36 @@ step_lines-injective (s ∷ a) (t ∷ b) v w x y same =
     }
 
 -- The trace of these parts.
-abbrev trace_of : List Letter → List Letter → List StepLine → Verdict → List Letter → Trace
-trace_of left right steps verdict witness = record {
-  left = left;
-  right = right;
+abbrev trace_of : Header → List StepLine → Verdict → List Letter → Trace
+trace_of header steps verdict witness = record {
+  header = header;
   steps = steps;
   verdict = verdict;
   witness = witness;
 }
 
+-- what is compared is known by its two lines
+header-injective : (g h : Header) → left_line g ≡ left_line h → right_line g ≡ right_line h → g ≡ h
+header-injective (words a b) (words u v) left right =
+    let first : a ≡ u = cc in
+    let second : b ≡ v = cc in
+    ap₂ (λ a b. words a b) first second
+header-injective (words a b) (terms t u) left right = absurd (cc)
+header-injective (terms a b) (words u v) left right = absurd (cc)
+header-injective (terms a b) (terms t u) left right =
+    let first : a ≡ t = cc in
+    let second : b ≡ u = cc in
+    ap₂ (λ a b. terms a b) first second
+
 -- a trace is known by its lines
 trace_lines-injective : (s t : Trace) → trace_lines s ≡ trace_lines t → s ≡ t
 trace_lines-injective s t same =
-    let left : s.left ≡ t.left = cc in
-    let right : s.right ≡ t.right = cc in
+    let left : left_line s.header ≡ left_line t.header = cc in
+    let right : right_line s.header ≡ right_line t.header = cc in
     let rest = step_lines-injective s.steps t.steps s.verdict t.verdict s.witness t.witness (cc) in
-    ap₂ (λ l r. trace_of l r s.steps s.verdict s.witness) left right
-    ∙ ap₂ (λ a v. trace_of t.left t.right a v s.witness) rest.steps rest.verdict
-    ∙ ap (λ x. trace_of t.left t.right t.steps t.verdict x) rest.witness
+    ap (λ h. trace_of h s.steps s.verdict s.witness) (header-injective s.header t.header left right)
+    ∙ ap₂ (λ a v. trace_of t.header a v s.witness) rest.steps rest.verdict
+    ∙ ap (λ x. trace_of t.header t.steps t.verdict x) rest.witness
 
 -- two different traces have different texts
 pub trace_text-injective

@@ -1,3 +1,4 @@
 pub mod Verdicts
+pub mod Said
 pub mod TraceText
 pub mod TraceLines

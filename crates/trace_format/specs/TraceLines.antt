@@ -9,10 +9,12 @@
 --   kind_of line         the kind of line that it names
 --   line_of line         what the line says, or why it says nothing
 --   line_text l          the text of what a line says
+--   IsShortTerm t        t may stand in a trace file, as far as its size goes
 --   IsLine l             l can be said by a line
 --   IsTrace t            t can be written and read: each of its lines can be said
 --   Gives result read    what a reader answered is what is read, unless memory ran out
-use Rattle.std.specs.Prelude.{◌≡◌, ℕ, ◌+◌, ◌<◌, ◌&&◌, ◌==◌, nat_lt, if◌then◌else◌, List, [], ◌∷◌, ◌++◌, length, drop, codes, Option, Some, None, Result, Ok, Err}
+--   Reads result read    the same of what a line says
+use Rattle.std.specs.Prelude.{◌≡◌, ℕ, ◌+◌, ◌<◌, ◌≤◌, ◌&&◌, ◌||◌, ◌==◌, nat_lt, if◌then◌else◌, List, [], ◌∷◌, ◌++◌, length, drop, codes, Option, Some, None, Result, Ok, Err}
 use Rattle.std.specs.List.{before_first, AllByRecursion}
 use Rattle.std.specs.Str.{bytes_eq}
 use Rattle.wb_base.specs.Numbers.{number_at}
@@ -21,6 +23,11 @@ use Rattle.braid_word.specs.Notation.{strict_word_of, IsReadable}
 use Rattle.braid_word.specs.declared.TheConstants.{MAX_INDEX}
 use Rattle.braid_word.specs.declared.reader.WordErr.{WordErr}
 use Rattle.braid_word.specs.declared.reader.WordErr.TheVariants as word_errors
+use Rattle.ld_term.specs.Terms.{Term, height, leaf_count}
+use Rattle.ld_term.specs.StrictTexts.{as_term, strict_text, strict_term_of}
+use Rattle.ld_term.specs.TreeTexts.{written}
+use Rattle.ld_term.specs.declared.tree.Tree.{Tree}
+use Rattle.ld_term.specs.declared.TheConstants.{MAX_PRODUCTS}
 use Rattle.trace_format.specs.declared.verdict.Verdict.{Verdict}
 use Rattle.trace_format.specs.declared.verdict.Verdict.TheVariants as verdicts
 use Rattle.trace_format.specs.declared.line.Keyword.{Keyword}
@@ -30,10 +37,11 @@ use Rattle.trace_format.specs.declared.line.Kind.TheVariants as kinds
 use Rattle.trace_format.specs.declared.line.StepLine.{StepLine}
 use Rattle.trace_format.specs.declared.line.StepLine.TheVariants.{Handle, Commute, Swap, Delete, Insert}
 use Rattle.trace_format.specs.declared.line.Line.{Line}
-use Rattle.trace_format.specs.declared.line.Line.TheVariants as lines
 use Rattle.trace_format.specs.declared.line.LineErr.{LineErr}
 use Rattle.trace_format.specs.declared.line.LineErr.TheVariants.{Unknown, Form, Long, Memory}
-use Rattle.trace_format.specs.TraceText.{Trace, word_field, step_text, verdict_word}
+use Rattle.trace_format.specs.Said.{Said, said_by}
+use Rattle.trace_format.specs.Said as said
+use Rattle.trace_format.specs.TraceText.{Header, words as two_words, terms as two_terms, Trace, word_field, step_text, verdict_word}
 
 -- ---- Keywords ----
 
@@ -56,9 +64,11 @@ keyword_by word =
     else (if bytes_eq word (codes "braid-trace") then Some words.Start
     else (if bytes_eq word (codes "left") then Some words.Left
     else (if bytes_eq word (codes "right") then Some words.Right
+    else (if bytes_eq word (codes "left-term") then Some words.LeftTerm
+    else (if bytes_eq word (codes "right-term") then Some words.RightTerm
     else (if bytes_eq word (codes "verdict") then Some words.Verdict
     else (if bytes_eq word (codes "witness") then Some words.Witness
-    else (if bytes_eq word (codes "end") then Some words.Finish else None))))))))))
+    else (if bytes_eq word (codes "end") then Some words.Finish else None))))))))))))
 
 -- The kind of line that a keyword names.
 abbrev pub kind_named : Keyword → Kind
@@ -70,6 +80,8 @@ kind_named words.Insert = kinds.Step
 kind_named words.Start = kinds.Start
 kind_named words.Left = kinds.Left
 kind_named words.Right = kinds.Right
+kind_named words.LeftTerm = kinds.LeftTerm
+kind_named words.RightTerm = kinds.RightTerm
 kind_named words.Verdict = kinds.Verdict
 kind_named words.Witness = kinds.Witness
 kind_named words.Finish = kinds.Finish
@@ -100,6 +112,22 @@ field_word [] = Ok []
 field_word (space ∷ []) = Err Form
 field_word (space ∷ (byte ∷ bytes)) = strict_result (strict_word_of (byte ∷ bytes))
 
+-- A term that isn't too large for a trace file: each index of its braid word can be read. A term has one leaf
+-- more than products.
+pub record IsShortTerm (t : Term) : Type 0 where
+  pub low : height t ≤ MAX_INDEX
+  pub few : leaf_count t ≤ MAX_PRODUCTS + 1
+
+-- A term that was read, where it isn't too large.
+abbrev pub short_term : Option Term → Result Term LineErr
+short_term None = Err Form
+short_term (Some t) = if nat_lt MAX_INDEX (height t) || nat_lt (MAX_PRODUCTS + 1) (leaf_count t) then Err Long else Ok t
+
+-- A term behind its keyword: a space, and its strict text.
+abbrev pub field_term : List ℕ → Result Term LineErr
+field_term [] = Err Form
+field_term (space ∷ bytes) = short_term (strict_term_of bytes)
+
 -- A number in front from 1 to the greatest of 32 bits, and what follows it.
 abbrev pub placed_by : List ℕ → Option (ℕ × ℕ) → Option (ℕ × List ℕ)
 placed_by bytes None = None
@@ -112,9 +140,9 @@ place_at [] = None
 place_at (byte ∷ bytes) = if byte == 32 then placed_by bytes (number_at bytes) else None
 
 -- What is made of a part that is read.
-abbrev pub said : {X Y : Type 0} → (X → Y) → Result X LineErr → Result Y LineErr
-said f (Ok x) = Ok (f x)
-said f (Err e) = Err e
+abbrev pub made_of : {X Y : Type 0} → (X → Y) → Result X LineErr → Result Y LineErr
+made_of f (Ok x) = Ok (f x)
+made_of f (Err e) = Err e
 
 -- A place, with nothing behind it.
 abbrev pub only_place : Option (ℕ × List ℕ) → Result ℕ LineErr
@@ -125,7 +153,7 @@ only_place (Some (p, byte ∷ bytes)) = Err Form
 -- Two places behind `h`, with nothing behind them.
 abbrev pub two_places : Option (ℕ × List ℕ) → Result StepLine LineErr
 two_places None = Err Form
-two_places (Some (p, bytes)) = said (Handle p) (only_place (place_at bytes))
+two_places (Some (p, bytes)) = made_of (Handle p) (only_place (place_at bytes))
 
 -- The letter of a word of one letter.
 abbrev pub letter_alone : Result (List Letter) WordErr → Result Letter LineErr
@@ -141,7 +169,7 @@ only_letter (byte ∷ bytes) = if byte == 32 then letter_alone (strict_word_of b
 -- A place and a letter behind `i`, with nothing behind them.
 abbrev pub place_and_letter : Option (ℕ × List ℕ) → Result StepLine LineErr
 place_and_letter None = Err Form
-place_and_letter (Some (p, bytes)) = said (Insert p) (only_letter bytes)
+place_and_letter (Some (p, bytes)) = made_of (Insert p) (only_letter bytes)
 
 -- The verdict behind its keyword.
 abbrev pub verdict_by : List ℕ → Result Verdict LineErr
@@ -151,22 +179,24 @@ verdict_by rest =
     else (if bytes_eq rest (codes " greater") then Ok verdicts.Greater else Err Form))
 
 -- A line with this keyword and this rest.
-abbrev pub line_by : Option Keyword → List ℕ → Result Line LineErr
+abbrev pub line_by : Option Keyword → List ℕ → Result Said LineErr
 line_by None rest = Err Unknown
-line_by (Some words.Start) rest = if bytes_eq rest (codes " 1") then Ok lines.Start else Err Form
-line_by (Some words.Left) rest = said lines.Left (field_word rest)
-line_by (Some words.Right) rest = said lines.Right (field_word rest)
-line_by (Some words.Handle) rest = said lines.Step (two_places (place_at rest))
-line_by (Some words.Commute) rest = said (λ p. lines.Step (Commute p)) (only_place (place_at rest))
-line_by (Some words.Swap) rest = said (λ p. lines.Step (Swap p)) (only_place (place_at rest))
-line_by (Some words.Delete) rest = said (λ p. lines.Step (Delete p)) (only_place (place_at rest))
-line_by (Some words.Insert) rest = said lines.Step (place_and_letter (place_at rest))
-line_by (Some words.Verdict) rest = said lines.Verdict (verdict_by rest)
-line_by (Some words.Witness) rest = said lines.Witness (field_word rest)
-line_by (Some words.Finish) rest = if length rest == 0 then Ok lines.Finish else Err Form
+line_by (Some words.Start) rest = if bytes_eq rest (codes " 1") then Ok said.start else Err Form
+line_by (Some words.Left) rest = made_of said.left (field_word rest)
+line_by (Some words.Right) rest = made_of said.right (field_word rest)
+line_by (Some words.LeftTerm) rest = made_of said.left_term (field_term rest)
+line_by (Some words.RightTerm) rest = made_of said.right_term (field_term rest)
+line_by (Some words.Handle) rest = made_of said.step (two_places (place_at rest))
+line_by (Some words.Commute) rest = made_of (λ p. said.step (Commute p)) (only_place (place_at rest))
+line_by (Some words.Swap) rest = made_of (λ p. said.step (Swap p)) (only_place (place_at rest))
+line_by (Some words.Delete) rest = made_of (λ p. said.step (Delete p)) (only_place (place_at rest))
+line_by (Some words.Insert) rest = made_of said.step (place_and_letter (place_at rest))
+line_by (Some words.Verdict) rest = made_of said.verdict (verdict_by rest)
+line_by (Some words.Witness) rest = made_of said.witness (field_word rest)
+line_by (Some words.Finish) rest = if length rest == 0 then Ok said.finish else Err Form
 
 -- What a line says, without its LF.
-unfoldable pub line_of : List ℕ → Result Line LineErr
+unfoldable pub line_of : List ℕ → Result Said LineErr
 line_of line = line_by (keyword_by (keyword_of line)) (behind_keyword line)
 
 -- Want of memory is free; any other answer is what is read.
@@ -181,17 +211,29 @@ abbrev pub Gives : {X : Type 0} → Result X LineErr → Result X LineErr → Ty
 Gives (Ok x) read = read ≡ Ok x
 Gives (Err e) read = Fails e read
 
+-- The same of a term, which a reader gives as a tree.
+abbrev pub ReadsTerm : Result Tree LineErr → Result Term LineErr → Type 0
+ReadsTerm (Ok tree) read = read ≡ Ok (as_term (written tree))
+ReadsTerm (Err e) read = Fails e read
+
+-- The same of what a line says.
+abbrev pub Reads : Result Line LineErr → Result Said LineErr → Type 0
+Reads (Ok l) read = read ≡ Ok (said_by l)
+Reads (Err e) read = Fails e read
+
 -- ---- The text of a line ----
 
 -- The text of what a line says, without LF.
-abbrev pub line_text : Line → List ℕ
-line_text lines.Start = codes "braid-trace 1"
-line_text (lines.Left w) = codes "left" ++ word_field w
-line_text (lines.Right w) = codes "right" ++ word_field w
-line_text (lines.Step step) = step_text step
-line_text (lines.Verdict v) = codes "verdict " ++ verdict_word v
-line_text (lines.Witness w) = codes "witness" ++ word_field w
-line_text lines.Finish = codes "end"
+abbrev pub line_text : Said → List ℕ
+line_text said.start = codes "braid-trace 1"
+line_text (said.left w) = codes "left" ++ word_field w
+line_text (said.right w) = codes "right" ++ word_field w
+line_text (said.left_term t) = codes "left-term " ++ strict_text t
+line_text (said.right_term t) = codes "right-term " ++ strict_text t
+line_text (said.step s) = step_text s
+line_text (said.verdict v) = codes "verdict " ++ verdict_word v
+line_text (said.witness w) = codes "witness" ++ word_field w
+line_text said.finish = codes "end"
 
 -- A place of a letter in a step, counted from 1.
 abbrev pub IsPlace : ℕ → Type 0
@@ -205,19 +247,26 @@ IsStepLine (Swap p) = IsPlace p
 IsStepLine (Delete p) = IsPlace p
 IsStepLine (Insert p x) = IsPlace p × IsOn (MAX_INDEX + 1) (x ∷ [])
 
--- What a line can say: its words can be read, and its places are from 1 to the greatest of 32 bits.
-abbrev pub IsLine : Line → Type 0
-IsLine lines.Start = Unit {0}
-IsLine (lines.Left w) = IsReadable w
-IsLine (lines.Right w) = IsReadable w
-IsLine (lines.Step step) = IsStepLine step
-IsLine (lines.Verdict v) = Unit {0}
-IsLine (lines.Witness w) = IsReadable w
-IsLine lines.Finish = Unit {0}
+-- What a line can say: its words can be read, its term isn't too large, and its places are from 1 to the
+-- greatest of 32 bits.
+abbrev pub IsLine : Said → Type 0
+IsLine said.start = Unit {0}
+IsLine (said.left w) = IsReadable w
+IsLine (said.right w) = IsReadable w
+IsLine (said.left_term t) = IsShortTerm t
+IsLine (said.right_term t) = IsShortTerm t
+IsLine (said.step s) = IsStepLine s
+IsLine (said.verdict v) = Unit {0}
+IsLine (said.witness w) = IsReadable w
+IsLine said.finish = Unit {0}
 
--- The words of a trace can be read, and the places of its steps are places.
+-- What is compared can be read.
+abbrev pub IsHeader : Header → Type 0
+IsHeader (two_words u v) = IsReadable u × IsReadable v
+IsHeader (two_terms t u) = IsShortTerm t × IsShortTerm u
+
+-- The words of a trace can be read, its terms aren't too large, and the places of its steps are places.
 pub record IsTrace (t : Trace) : Type 0 where
-  pub left : IsReadable t.left
-  pub right : IsReadable t.right
+  pub header : IsHeader t.header
   pub steps : AllByRecursion IsStepLine t.steps
   pub witness : IsReadable t.witness

@@ -1,33 +1,39 @@
 -- The text of a trace file, version 1.
 --
--- A trace claims how the braids of two words compare, by which steps that was found, and gives a word by
--- which it can be seen. Or it claims so of the braids of two terms, and then has their texts in place of the
--- words. Each line ends with LF (byte 10); fields are parted by one space.
+-- A trace claims how the braids of two words, or of two terms, compare, by which steps that was found, and
+-- gives a word by which it can be seen. Each line ends with LF (byte 10); fields are parted by one space.
 -- Source: this project's own.
 --
---   Trace                what a trace file of two words says
+--   Header               what is compared: two words, or two terms
+--   Trace                what a trace file says
 --   trace_text t         its text
---   TermTrace            what a trace file of two terms says
---   term_trace_text t    its text
+--   TermTrace            what is written of two terms, which are given by their texts
+--   term_trace_text t    its text, which is that of a trace where these are strict texts
 use Rattle.std.specs.Prelude.{ℕ, List, [], ◌∷◌, ◌++◌, codes, decimal}
 use Rattle.std.specs.List.{flat_map}
 use Rattle.wb_base.specs.Lines.{line}
 use Rattle.braid_word.specs.Words.{Letter}
 use Rattle.braid_word.specs.Notation.{word_text, next_text}
+use Rattle.ld_term.specs.Terms.{Term}
+use Rattle.ld_term.specs.StrictTexts.{strict_text}
 use Rattle.trace_format.specs.declared.line.StepLine.{StepLine}
 use Rattle.trace_format.specs.declared.line.StepLine.TheVariants.{Handle, Commute, Swap, Delete, Insert}
 use Rattle.trace_format.specs.declared.verdict.Verdict.{Verdict}
 use Rattle.trace_format.specs.declared.verdict.Verdict.TheVariants.{Less, Equal, Greater}
 
--- Two words, the steps from their quotient on, the verdict, and the word that it gives as witness.
+-- What is compared: the braids of two words, or those of two terms.
+pub data Header : Type 0 where
+  words : (left right : List Letter) → Header
+  terms : (left right : Term) → Header
+
+-- What is compared, the steps from the quotient on, the verdict, and the word that it gives as witness.
 pub record Trace : Type 0 where
-  pub left : List Letter
-  pub right : List Letter
+  pub header : Header
   pub steps : List StepLine
   pub verdict : Verdict
   pub witness : List Letter
 
--- The texts of two terms, and the same of the braids of these terms.
+-- The texts of two terms, and the steps, the verdict and the witness of their braids.
 pub record TermTrace : Type 0 where
   pub left : List ℕ
   pub right : List ℕ
@@ -64,9 +70,9 @@ verdict_word Less = codes "less"
 verdict_word Equal = codes "equal"
 verdict_word Greater = codes "greater"
 
--- The lines before the steps.
-abbrev pub head_text : List Letter → List Letter → List ℕ
-head_text left right =
+-- The lines before the steps, for two words.
+abbrev pub word_head_text : List Letter → List Letter → List ℕ
+word_head_text left right =
     line (codes "braid-trace 1") ++ line (codes "left" ++ word_field left) ++ line (codes "right" ++ word_field right)
 
 -- The same for the texts of two terms.
@@ -74,15 +80,20 @@ abbrev pub term_head_text : List ℕ → List ℕ → List ℕ
 term_head_text left right =
     line (codes "braid-trace 1") ++ line (codes "left-term " ++ left) ++ line (codes "right-term " ++ right)
 
+-- The lines before the steps.
+abbrev pub head_text : Header → List ℕ
+head_text (words u v) = word_head_text u v
+head_text (terms t u) = term_head_text (strict_text t) (strict_text u)
+
 -- The lines behind the steps.
 abbrev pub tail_text : Verdict → List Letter → List ℕ
 tail_text verdict witness =
     line (codes "verdict " ++ verdict_word verdict) ++ line (codes "witness" ++ word_field witness) ++ line (codes "end")
 
--- The text of a trace file of two words.
+-- The text of a trace file.
 unfoldable pub trace_text : Trace → List ℕ
-trace_text t = head_text t.left t.right ++ flat_map step_line t.steps ++ tail_text t.verdict t.witness
+trace_text t = head_text t.header ++ flat_map step_line t.steps ++ tail_text t.verdict t.witness
 
--- The text of a trace file of two terms.
+-- The text of a trace file of two terms that are given by their texts.
 unfoldable pub term_trace_text : TermTrace → List ℕ
 term_trace_text t = term_head_text t.left t.right ++ flat_map step_line t.steps ++ tail_text t.verdict t.witness

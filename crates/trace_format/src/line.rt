@@ -1,11 +1,15 @@
 // The lines of a trace file, each by itself.
-ghost use Rattle.std.specs.Prelude.{◌≡◌, ◌==◌, Some, None, MatchOption, Ok, IfOk};
+ghost use Rattle.std.specs.Prelude.{◌≡◌, ◌≤◌, ◌==◌, Some, None, MatchOption, Ok, IfOk};
 ghost use Rattle.std.specs.List.{position};
-ghost use Rattle.trace_format.specs.TraceLines.{Gives, keyword_of, behind_keyword, keyword_by, kind_named, kind_of, field_word, place_at, only_place, two_places, only_letter, place_and_letter, verdict_by, line_of, line_text, IsLine};
-ghost use Rattle.trace_format.specs.declared.line.Line.{Line as Said};
+ghost use Rattle.std.specs.Bool.{Decides};
+ghost use Rattle.ld_term.specs.Written.{written_height, HasNoName};
+ghost use Rattle.ld_term.specs.TreeTexts.{written};
+ghost use Rattle.trace_format.specs.TraceLines.{Gives, Reads, ReadsTerm, keyword_of, behind_keyword, keyword_by, kind_named, kind_of, field_word, field_term, place_at, only_place, two_places, only_letter, place_and_letter, verdict_by, line_of, line_text, IsLine};
+ghost use Rattle.trace_format.specs.Said.{Said as Says, said_by, IsNameless};
 
 use crate::verdict::Verdict;
-use braid_word::{Letter, Word, WordErr, read_strict_word};
+use braid_word::{Letter, MAX_INDEX, Word, WordErr, read_strict_word};
+use ld_term::{TermErr, Tree, read_strict};
 use std::alloc::Global;
 use thiserror::Error;
 use wb_base::read_number;
@@ -34,6 +38,10 @@ pub enum Keyword {
     Left,
     /// `right`
     Right,
+    /// `left-term`
+    LeftTerm,
+    /// `right-term`
+    RightTerm,
     /// `h`
     Handle,
     /// `c`
@@ -61,6 +69,10 @@ pub enum Kind {
     Left,
     /// `right`, with the right word.
     Right,
+    /// `left-term`, with the left term.
+    LeftTerm,
+    /// `right-term`, with the right term.
+    RightTerm,
     /// `h`, `c`, `s`, `d` or `i`, with a step.
     Step,
     /// `verdict`, with the verdict.
@@ -80,6 +92,10 @@ pub enum Line {
     Left(Word),
     /// The right word.
     Right(Word),
+    /// The left term.
+    LeftTerm(Tree),
+    /// The right term.
+    RightTerm(Tree),
     /// A step.
     Step(StepLine),
     /// The verdict.
@@ -99,7 +115,8 @@ pub enum LineErr {
     /// What follows the keyword hasn't the form of such a line.
     #[error("not of the form")]
     Form,
-    /// A word has more than 100,000 letters, and each of them can be read.
+    /// A word has more than 100,000 letters, and each of them can be read; or a term has more than 100,000
+    /// products or a height above 255.
     #[error("too long")]
     Long,
     /// Memory ran out.
@@ -143,6 +160,10 @@ fn keyword_by(word: &[u8]) -> Option<Keyword>
         Some(Keyword::Left)
     } else if word == b"right".as_slice() {
         Some(Keyword::Right)
+    } else if word == b"left-term".as_slice() {
+        Some(Keyword::LeftTerm)
+    } else if word == b"right-term".as_slice() {
+        Some(Keyword::RightTerm)
     } else if word == b"verdict".as_slice() {
         Some(Keyword::Verdict)
     } else if word == b"witness".as_slice() {
@@ -162,6 +183,8 @@ fn kind_named(word: Keyword) -> Kind
         Keyword::Start => Kind::Start,
         Keyword::Left => Kind::Left,
         Keyword::Right => Kind::Right,
+        Keyword::LeftTerm => Kind::LeftTerm,
+        Keyword::RightTerm => Kind::RightTerm,
         Keyword::Handle | Keyword::Commute | Keyword::Swap | Keyword::Delete | Keyword::Insert =>
             Kind::Step,
         Keyword::Verdict => Kind::Verdict,
@@ -172,8 +195,8 @@ fn kind_named(word: Keyword) -> Kind
 
 /// What a line is, by its keyword, which ends at its first space (byte 32) or with the line.
 ///
-/// `None` where that is none of `braid-trace`, `left`, `right`, `h`, `c`, `s`, `d`, `i`, `verdict`,
-/// `witness` and `end`, in these letters.
+/// `None` where that is none of `braid-trace`, `left`, `right`, `left-term`, `right-term`, `h`, `c`, `s`,
+/// `d`, `i`, `verdict`, `witness` and `end`, in these letters.
 pub fn kind_of(line: &[u8]) -> Option<Kind>
     ensures { result ≡ kind_of line.now }
 {
@@ -194,6 +217,40 @@ fn read_field(alloc: Global, behind: &[u8]) -> Result<Word, LineErr>
             Err(WordErr::Memory) => Err(LineErr::Memory),
             Err(WordErr::BadLetter { .. } | WordErr::BadIndex { .. }) => Err(LineErr::Form),
         },
+    }
+}
+
+// Whether a term is no higher than this.
+fn is_within(tree: &Tree, height: u16) -> bool
+    ensures { Decides result (written_height (written tree.now) ≤ height) }
+{
+    match tree {
+        Tree::X | Tree::Named { .. } => true,
+        Tree::Product(left, right) => height > 0
+            && is_within(left, height - 1)
+            && is_within(right, height - 1),
+    }
+}
+
+// The term behind a keyword, in its strict text. Its height is the greatest index of its braid word.
+fn read_term_field(alloc: Global, behind: &[u8]) -> Result<Tree, LineErr>
+    ensures term { ReadsTerm result (field_term behind.now) }
+    ensures nameless { IfOk result (λ tree. HasNoName (written tree)) }
+{
+    let [_, bytes @ ..] = behind else {
+        return Err(LineErr::Form);
+    };
+    match read_strict(alloc, bytes) {
+        Ok(tree) => {
+            if is_within(&tree, MAX_INDEX) {
+                Ok(tree)
+            } else {
+                Err(LineErr::Long)
+            }
+        }
+        Err(TermErr::TooDeep { .. } | TermErr::TooMany { .. }) => Err(LineErr::Long),
+        Err(TermErr::Form { .. }) => Err(LineErr::Form),
+        Err(TermErr::Memory) => Err(LineErr::Memory),
     }
 }
 
@@ -277,7 +334,8 @@ fn read_verdict(behind: &[u8]) -> Result<Verdict, LineErr>
 // Reads a line by its keyword.
 #[tactic(auto, unfolding(crate::specs::TraceLines::line_of))]
 fn read_by_keyword(alloc: Global, line: &[u8]) -> Result<Line, LineErr>
-    ensures { Gives result (line_of line.now) }
+    ensures line { Reads result (line_of line.now) }
+    ensures nameless { IfOk result IsNameless }
 {
     let (word, behind) = split_keyword(line);
     match keyword_by(word) {
@@ -285,6 +343,8 @@ fn read_by_keyword(alloc: Global, line: &[u8]) -> Result<Line, LineErr>
         Some(Keyword::Start) if behind == b" 1".as_slice() => Ok(Line::Start),
         Some(Keyword::Left) => Ok(Line::Left(read_field(alloc, behind)?)),
         Some(Keyword::Right) => Ok(Line::Right(read_field(alloc, behind)?)),
+        Some(Keyword::LeftTerm) => Ok(Line::LeftTerm(read_term_field(alloc, behind)?)),
+        Some(Keyword::RightTerm) => Ok(Line::RightTerm(read_term_field(alloc, behind)?)),
         Some(Keyword::Handle) => Ok(Line::Step(read_handle(behind)?)),
         Some(Keyword::Commute) => Ok(Line::Step(StepLine::Commute(read_only_place(behind)?))),
         Some(Keyword::Swap) => Ok(Line::Step(StepLine::Swap(read_only_place(behind)?))),
@@ -300,17 +360,17 @@ fn read_by_keyword(alloc: Global, line: &[u8]) -> Result<Line, LineErr>
 /// Reads a line of a trace file of version 1, which is given without its LF.
 ///
 /// `Unknown` where it has no keyword, `Long` where its word has more than 100,000 letters that can all be
-/// read, and `Form` for any other fault, as a letter with an index above 255. The format is this
-/// project's.
+/// read, or its term more than 100,000 products or a height above 255, and `Form` for any other fault, as a
+/// letter with an index above 255. The format is this project's.
 pub fn read_line(alloc: Global, line: &[u8]) -> Result<Line, LineErr>
     // What is read is spelled so.
-    ensures text { IfOk result (λ l. (line.now ≡ line_text l) × IsLine l) }
+    ensures text { IfOk result (λ l. (line.now ≡ line_text (said_by l)) × IsLine (said_by l) × IsNameless l) }
 
     // What is spelled so is read, unless memory runs out.
-    ensures only { (l : Said) → IsLine l → line.now ≡ line_text l → Gives result (Ok l) }
+    ensures only { (l : Says) → IsLine l → line.now ≡ line_text l → Reads result (Ok l) }
 
     // Why it is refused.
-    ensures exact { Gives result (line_of line.now) }
+    ensures exact { Reads result (line_of line.now) }
 {
     read_by_keyword(alloc, line)
 }

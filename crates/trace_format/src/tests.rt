@@ -2,7 +2,7 @@ ghost use Rattle.std.specs.Prelude.{[], ◌∷◌, true, false};
 ghost use Rattle.braid_word.specs.Words.{letter};
 
 use crate::{Kind, Verdict, kind_of, put_term_trace, put_trace, read_line, verdict_of};
-use braid_word::{Account, Letter, MAX_LETTERS, Sign, read_strict_word};
+use braid_word::{Account, Letter, MAX_INDEX, MAX_LETTERS, Sign, read_strict_word};
 use std::alloc::Global;
 use std::test::Fail;
 use wb_base::MemSink;
@@ -21,6 +21,9 @@ fn names_the_kind_of_a_line_by_its_first_word(rt: HostRuntime) -> Result<(), Fai
         ("braid-trace 1", Some(Kind::Start)),
         ("left", Some(Kind::Left)),
         ("right x", Some(Kind::Right)),
+        ("left-term", Some(Kind::LeftTerm)),
+        ("left-term x", Some(Kind::LeftTerm)),
+        ("right-term 1", Some(Kind::RightTerm)),
         ("h  ", Some(Kind::Step)),
         ("c", Some(Kind::Step)),
         ("s 1", Some(Kind::Step)),
@@ -32,6 +35,8 @@ fn names_the_kind_of_a_line_by_its_first_word(rt: HostRuntime) -> Result<(), Fai
         ("", None),
         (" left", None),
         ("leftover", None),
+        ("left-", None),
+        ("left-terms x", None),
         ("Left 1", None),
         ("b 1", None),
         ("ii 1 1", None),
@@ -100,6 +105,30 @@ fn reads_the_text_of_a_line_and_nothing_else(rt: HostRuntime) -> Result<(), Fail
 }
 
 #[test]
+fn reads_a_term_in_its_strict_text_and_no_other(rt: HostRuntime) -> Result<(), Fail> {
+    for (line, want) in [
+        ("left-term x", "LeftTerm(X)"),
+        (
+            "right-term (x*(x*x))",
+            "RightTerm(Product(X, Product(X, X)))",
+        ),
+        ("left-term", "not of the form"),
+        ("left-term ", "not of the form"),
+        ("left-term  x", "not of the form"),
+        ("left-term x*x", "not of the form"),
+        ("left-term (x*x) ", "not of the form"),
+        ("right-term (x *x)", "not of the form"),
+        ("left-term ((x*x)*x", "not of the form"),
+        ("left-term a", "not of the form"),
+        ("right-term 1", "not of the form"),
+    ] {
+        let got = answer(rt.alloc(), line.as_bytes())?;
+        assert_eq!(rt; got.as_str(), want, "of {line:?}");
+    }
+    Ok(())
+}
+
+#[test]
 fn refuses_a_word_of_too_many_letters(rt: HostRuntime) -> Result<(), Fail> {
     let alloc = rt.alloc();
     let mut line = Vec::from_slice(alloc, b"left")?;
@@ -112,6 +141,50 @@ fn refuses_a_word_of_too_many_letters(rt: HostRuntime) -> Result<(), Fail> {
     assert_eq!(rt; answer(alloc, &step)?.as_str(), "not of the form");
     line.extend_from_slice(b" 0")?;
     assert_eq!(rt; answer(alloc, &line)?.as_str(), "not of the form");
+    Ok(())
+}
+
+// A line with the term of this height whose left parts are all the variable.
+fn high_term(alloc: Global, height: u16) -> Result<Vec<u8>, Fail> {
+    let mut line = Vec::from_slice(alloc, b"left-term ")?;
+    for _ in 0..height {
+        line.extend_from_slice(b"(x*")?;
+    }
+    line.push(b'x')?;
+    for _ in 0..height {
+        line.push(b')')?;
+    }
+    Ok(line)
+}
+
+// A line with the term of 2^17 - 1 products whose leaves are all at one height.
+fn broad_term(alloc: Global) -> Result<Vec<u8>, Fail> {
+    let mut term = Vec::from_slice(alloc, b"x")?;
+    for _ in 0..17 {
+        let mut square = Vec::from_slice(alloc, b"(")?;
+        square.extend_from_slice(&term)?;
+        square.push(b'*')?;
+        square.extend_from_slice(&term)?;
+        square.push(b')')?;
+        term = square;
+    }
+    let mut line = Vec::from_slice(alloc, b"right-term ")?;
+    line.extend_from_slice(&term)?;
+    Ok(line)
+}
+
+#[test]
+fn refuses_a_term_that_is_too_large(rt: HostRuntime) -> Result<(), Fail> {
+    let alloc = rt.alloc();
+    assert!(rt; read_line(alloc, &high_term(alloc, MAX_INDEX)?).is_ok());
+    let mut high = high_term(alloc, MAX_INDEX + 1)?;
+    assert_eq!(rt; answer(alloc, &high)?.as_str(), "too long");
+    high.push(b')')?;
+    assert_eq!(rt; answer(alloc, &high)?.as_str(), "not of the form");
+    let mut broad = broad_term(alloc)?;
+    assert_eq!(rt; answer(alloc, &broad)?.as_str(), "too long");
+    broad.push(b')')?;
+    assert_eq!(rt; answer(alloc, &broad)?.as_str(), "not of the form");
     Ok(())
 }
 

@@ -2,7 +2,7 @@ ghost use Rattle.std.specs.Prelude.{◌≡◌, ◌+◌, ◌≤◌, ◌++◌, ◌
 ghost use Rattle.std.specs.List.{flat_map};
 ghost use Rattle.wb_base.specs.Streams.{HasCause, Puts};
 ghost use Rattle.wb_base.specs.Lines.{line};
-ghost use Rattle.trace_format.specs.TraceText.{word_field, step_line, handle_step, verdict_word, head_text, term_head_text, tail_text, trace_text, term_trace_text};
+ghost use Rattle.trace_format.specs.TraceText.{words, word_field, step_line, handle_step, verdict_word, head_text, term_head_text, tail_text, trace_text, term_trace_text};
 
 use crate::text::{put_term_line, put_word_line};
 use crate::verdict::Verdict;
@@ -77,9 +77,9 @@ fn put_verdict<K: Sink>(sink: &mut K, verdict: Verdict) -> Result<(), Failed>
 
 // Gives the lines before the steps, for two words.
 fn put_head<K: Sink>(sink: &mut K, left: &[Letter], right: &[Letter]) -> Result<(), Failed>
-    ensures took { Puts (K.taken sink.old) (K.taken sink.new) result (head_text left.now right.now) }
+    ensures took { Puts (K.taken sink.old) (K.taken sink.new) result (head_text (words left.now right.now)) }
     ensures cause { HasCause (K.faults sink.old) (K.faults sink.new) result }
-    ensures waits { K.waiting sink.new ≤ K.waiting sink.old + length (head_text left.now right.now) }
+    ensures waits { K.waiting sink.new ≤ K.waiting sink.old + length (head_text (words left.now right.now)) }
 {
     put_line(sink, b"braid-trace 1")?;
     put_word_line(sink, b"left", left)?;
@@ -133,10 +133,10 @@ pub fn put_trace<K: Sink, A: Account>(
     verdict: Verdict,
 ) -> Result<(), Failed>
     ensures took { Puts (K.taken sink.old) (K.taken sink.new) result
-        (trace_text (record { left = left.now; right = right.now; steps = map handle_step (A.steps account.now); verdict = verdict; witness = A.current account.now })) }
+        (trace_text (record { header = words left.now right.now; steps = map handle_step (A.steps account.now); verdict = verdict; witness = A.current account.now })) }
     ensures cause { HasCause (K.faults sink.old) (K.faults sink.new) result }
     ensures waits { K.waiting sink.new ≤ K.waiting sink.old + length
-        (trace_text (record { left = left.now; right = right.now; steps = map handle_step (A.steps account.now); verdict = verdict; witness = A.current account.now })) }
+        (trace_text (record { header = words left.now right.now; steps = map handle_step (A.steps account.now); verdict = verdict; witness = A.current account.now })) }
 {
     put_head(sink, left, right)?;
     put_body(sink, account, verdict)
