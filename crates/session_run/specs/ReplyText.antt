@@ -9,7 +9,7 @@ use Rattle.wb_base.specs.Lines.{line}
 use Rattle.braid_word.specs.declared.sign.Sign.TheVariants.{Empty, Positive, Negative, Mixed}
 use Rattle.handle_reduce.specs.declared.progress.Progress.{Progress}
 use Rattle.handle_reduce.specs.declared.progress.Progress.TheVariants.{Running, Done, HandlesMet, LengthMet}
-use Rattle.trace_format.specs.TraceText.{trace_text, handle_step}
+use Rattle.trace_format.specs.TraceText.{words, trace_text, handle_step}
 use Rattle.trace_format.specs.declared.verdict.Verdict.{Verdict}
 use Rattle.trace_format.specs.declared.verdict.Verdict.TheVariants.{Less, Equal, Greater}
 use Rattle.session_run.specs.declared.reply.JobLine.{JobLine}
@@ -45,8 +45,7 @@ verdict_at LengthMet = Equal
 -- The trace file of a job.
 abbrev pub job_trace : Job → List ℕ
 job_trace j = trace_text (record {
-  left = j.left;
-  right = j.right;
+  header = words j.left j.right;
   steps = map handle_step (state_of j).steps;
   verdict = verdict_at (state_of j).progress;
   witness = (state_of j).present;

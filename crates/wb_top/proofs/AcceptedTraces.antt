@@ -3,14 +3,13 @@
 -- The steps of a run lead from its first word to the one that it has reached (`IsSteps-run_after`), and
 -- the places of these are places (`IsStepLine-steps`). A run that is done has begun with a word within
 -- its limit and has reached another (`length-begun`, `length-reached`). So the trace of a run of the
--- quotient of two words that were read is accepted (`IsAccepted-Done`).
+-- quotient of what is compared is accepted, if that can be read (`IsAccepted-Done`).
 use Rattle.std.proofs.Common.{◌≡◌, ℕ, zero, suc, ◌+◌, ◌≤◌, ltb, List, [], ◌∷◌, ◌++◌, length, Option, Some, None, refl, sym, subst, inl, inr, arith, map}
 use Rattle.std.specs.List.{AllByRecursion}
 use Rattle.std.proofs.lemmas.Bool.{cond_both, cases_lt, ltb-false}
 use Rattle.std.proofs.lemmas.List.{map-append}
 use Rattle.std.proofs.lemmas.List.Elements.{recursion_from_All, All-map, All-weaker}
 use Rattle.braid_word.specs.Words.{Letter, quotient, IsOn}
-use Rattle.braid_word.specs.Notation.{IsReadable}
 use Rattle.braid_word.specs.declared.TheConstants.{MAX_INDEX, MAX_LETTERS}
 use Rattle.braid_word.specs.declared.sign.Sign.{Sign}
 use Rattle.braid_word.proofs.WordLemmas.{on_quotient}
@@ -24,10 +23,10 @@ use Rattle.handle_reduce.proofs.RunLemmas as runs
 use Rattle.handle_reduce.proofs.RunEquivalence.{EquivalentOn-run_after}
 use Rattle.trace_format.specs.declared.verdict.Verdict.{Verdict}
 use Rattle.trace_format.specs.Verdicts.{verdict_of}
-use Rattle.trace_format.specs.TraceText.{trace_text, handle_step}
-use Rattle.trace_format.specs.TraceLines.{IsStepLine, IsTrace}
-use Rattle.trace_check.specs.Accepted.{IsSteps, IsAccepted}
-use Rattle.trace_check.proofs.AcceptedLemmas.{IsStep-reduct, IsSteps-append}
+use Rattle.trace_format.specs.TraceText.{Header, trace_text, handle_step}
+use Rattle.trace_format.specs.TraceLines.{IsStepLine, IsHeader, IsTrace}
+use Rattle.trace_check.specs.Accepted.{left_word, right_word, quotient_of, IsSteps, IsAccepted}
+use Rattle.trace_check.proofs.AcceptedLemmas.{IsStep-reduct, IsSteps-append, on_words}
 use Rattle.trace_check.proofs.VerdictLemmas.{Shows-verdict_of}
 use Rattle.wb_top.specs.Reductions.{trace_of}
 
@@ -141,47 +140,44 @@ length-reached w handles limit t short = elim (runs.length-present w handles lim
 
 -- ---- The trace of a run ----
 
--- its words can be read and its places are places
+-- what it has can be read, and its places are places
 IsTrace-run_after
-    : (u v : List Letter) (handles limit t : ℕ) (verdict : Verdict)
-    → let run = run_after (quotient u v) handles limit t in
-    IsReadable u
-    → IsReadable v
+    : (h : Header) (handles limit t : ℕ) (verdict : Verdict)
+    → let run = run_after (quotient_of h) handles limit t in
+    IsHeader h
     → limit ≤ MAX_LETTERS
     → length run.present ≤ limit
-    → IsTrace (trace_of u v run verdict)
-IsTrace-run_after u v handles limit t verdict left right small short =
+    → IsTrace (trace_of h run verdict)
+IsTrace-run_after h handles limit t verdict is small short =
     let n : ℕ = MAX_INDEX + 1 in
-    let on : IsOn n (quotient u v) = on_quotient n u v left.on right.on in
+    let (left, right) = on_words h is in
+    let on : IsOn n (quotient_of h) = on_quotient n (left_word h) (right_word h) left right in
     record {
-      left = left;
-      right = right;
-      steps = IsStepLine-steps (quotient u v) handles limit t small;
+      header = is;
+      steps = IsStepLine-steps (quotient_of h) handles limit t small;
       witness = record {
         short = omega arith;
-        on = on_last (EquivalentOn-run_after n (quotient u v) handles limit t on);
+        on = on_last (EquivalentOn-run_after n (quotient_of h) handles limit t on);
       };
     }
 
 -- the trace of a run that is done is accepted
 pub IsAccepted-Done
-    : (u v : List Letter) (handles limit t : ℕ) (sign : Sign) (verdict : Verdict)
-    → let run = run_after (quotient u v) handles limit t in
-    IsReadable u
-    → IsReadable v
+    : (h : Header) (handles limit t : ℕ) (sign : Sign) (verdict : Verdict)
+    → let run = run_after (quotient_of h) handles limit t in
+    IsHeader h
     → limit ≤ MAX_LETTERS
     → run.progress ≡ Done sign
     → verdict_of sign ≡ Some verdict
-    → IsAccepted (trace_text (trace_of u v run verdict)) (trace_of u v run verdict)
-IsAccepted-Done u v handles limit t sign verdict left right small done gives =
-    let w : List Letter = quotient u v in
+    → IsAccepted (trace_text (trace_of h run verdict)) (trace_of h run verdict)
+IsAccepted-Done h handles limit t sign verdict is small done gives =
+    let w : List Letter = quotient_of h in
     let run : RunState = run_after w handles limit t in
     let within : run.progress ≡ LengthMet → ⊥ = λ met. absurd (cc) in
     let begun_short : length w ≤ limit = length-begun w handles limit t within in
     record {
       text = refl;
-      bounds = IsTrace-run_after u v handles limit t verdict left right small
-          (length-reached w handles limit t within);
+      bounds = IsTrace-run_after h handles limit t verdict is small (length-reached w handles limit t within);
       short = omega arith;
       steps = IsSteps-run_after w handles limit t small;
       shown = Shows-verdict_of sign verdict run.present

@@ -3,7 +3,7 @@
 -- A run is over after as many turns as it may reduce handles, and its sign isn't mixed, so `compare` has an
 -- answer to any input (`compared_words-total`). The program has no two answers to any words and any input
 -- (`IsAnswer-one`).
-use Rattle.std.proofs.Common.{◌≡◌, ◌≢◌, ◌⊎◌, inr, ℕ, Bool, true, false, not, ltb, ◌+◌, ◌<◌, ◌≤◌, List, [], ◌∷◌, ◌++◌, length, drop, Option, Some, None, Result, Ok, Err, IfSome, codes, refl, ap, sym, subst, ◌∙◌, zero-add, arith}
+use Rattle.std.proofs.Common.{◌≡◌, ◌≢◌, ◌⊎◌, inr, ℕ, Bool, true, false, not, ltb, ◌+◌, ◌<◌, ◌≤◌, List, [], ◌∷◌, ◌++◌, length, drop, Option, Some, None, Result, Ok, Err, IfSome, codes, refl, ap, ap₂, sym, subst, ◌∙◌, zero-add, arith}
 use Rattle.std.specs.Option.{option_map}
 use Rattle.std.proofs.lemmas.Bool.{le-ltb, ltb-false, and_parts, and_from}
 use Rattle.wb_base.specs.Lines.{line}
@@ -24,7 +24,7 @@ use Rattle.handle_reduce.proofs.RunLemmas.{run_after-ended, run_after-long}
 use Rattle.handle_reduce.proofs.SignOfReduced.{run_after-Mixed}
 use Rattle.wb_top.specs.declared.TheConstants.{MAX_INPUT}
 use Rattle.wb_top.specs.declared.command.Command.{Command}
-use Rattle.wb_top.specs.declared.command.Command.TheVariants.{Compare, Terms, Check, Normal, Same, Act, Eval, Laver, Row, Session, Bench}
+use Rattle.wb_top.specs.declared.command.Command.TheVariants.{Compare, Terms, Check, Normal, Same, Act, Eval, Value, Expand, Derive, Laver, Row, Session, Bench}
 use Rattle.wb_top.specs.declared.input.Fault.{Fault}
 use Rattle.wb_top.specs.Inputs.{one_word, two_words}
 use Rattle.wb_top.proofs.CommandLemmas.{command_of-IsBounded}
@@ -34,10 +34,12 @@ use Rattle.trace_format.specs.Verdicts.{verdict_of}
 use Rattle.wb_top.specs.Commands.{command_of, reads_input, reads_first, IsBounded}
 use Rattle.wb_top.specs.Answer.{Answer, answer, usage, limit_met, Told, IsTold, told_nothing, told_answer}
 use Rattle.wb_top.specs.Reductions.{ended, run_answer}
-use Rattle.wb_top.specs.TermAnswers.{file_refused, evaluated, IsEvaluated, eval_refused, eval_read, AreCompared, terms_refused, terms_read}
+use Rattle.wb_top.specs.TermAnswers.{file_refused, IsOnTerm, on_refusal, on_term, evaluated, valued, AreCompared, terms_refused, terms_read}
+use Rattle.wb_top.specs.ExpansionAnswers.{expanded_at, derived_in}
 use Rattle.wb_base.specs.Lines.{lines_of}
+use Rattle.ld_term.specs.Terms.{Term}
 use Rattle.term_graph.specs.TermLists.{term_at}
-use Rattle.term_graph.proofs.FileLemmas.{IsFileRefusal-unique, IsFileRefusal-file, IsTermFile-terms}
+use Rattle.term_graph.proofs.FileLemmas.{IsFileRefusal-unique, IsFileRefusal-file, IsTermFile-terms, IsTermFile-made}
 use Rattle.trace_format.specs.declared.verdict.Verdict.{Verdict}
 use Rattle.wb_top.specs.Answers.{compared_words, IsNormalOf, IsDecided, are_same, are_different, IsSameOf, images_fit, acted, AnswersShort, Answers, past_limit, in_limit, AnswersWords, IsAnswer}
 
@@ -124,24 +126,25 @@ unfolding run_answer
 compared_words-total handles limit (Err fault) = (_, refl)
 compared_words-total handles limit (Ok (u, v)) = ended-total _ handles limit (quotient u v) _ _ refl refl
 
--- a term file has one answer of `eval`
-IsEvaluated-one
-    : (limit : ℕ) (input : List ℕ) (a b : Answer)
-    → IsEvaluated limit input a
-    → IsEvaluated limit input b
+-- a term file of one term has one answer
+IsOnTerm-one
+    : (of_term : List Term → Term → Answer) (input : List ℕ) (a b : Answer)
+    → IsOnTerm of_term input a
+    → IsOnTerm of_term input b
     → a ≡ b
-IsEvaluated-one limit input a b (eval_refused e refused is) (eval_refused f also f_is) =
+IsOnTerm-one of_term input a b (on_refusal e refused is) (on_refusal f also f_is) =
     sym is ∙ ap file_refused (IsFileRefusal-unique 1 (lines_of input) e f refused also) ∙ f_is
-IsEvaluated-one limit input a b (eval_refused e refused is) (eval_read made first file f_is) =
+IsOnTerm-one of_term input a b (on_refusal e refused is) (on_term made first file f_is) =
     absurd (IsFileRefusal-file 1 (lines_of input) made first None e file refused)
-IsEvaluated-one limit input a b (eval_read made first file is) (eval_refused e refused f_is) =
+IsOnTerm-one of_term input a b (on_term made first file is) (on_refusal e refused f_is) =
     absurd (IsFileRefusal-file 1 (lines_of input) made first None e file refused)
-IsEvaluated-one limit input a b (eval_read made first file is) (eval_read again other also f_is) =
+IsOnTerm-one of_term input a b (on_term made first file is) (on_term again other also f_is) =
+    let graph = IsTermFile-made 1 (lines_of input) made again first other None None file also in
     let same = IsTermFile-terms 1 (lines_of input) made again first other None None file also in
     let one : term_at made first ≡ term_at again other = cc in
-    sym is ∙ ap (evaluated limit) one ∙ f_is
+    sym is ∙ ap₂ of_term graph one ∙ f_is
 
--- and of `terms`
+-- and one of two terms has one of `terms`
 AreCompared-one
     : (handles limit : ℕ) (input : List ℕ) (a b : Answer)
     → AreCompared handles limit input a
@@ -208,7 +211,13 @@ AnswersShort-one (Normal strands) input a b bounded first second =
 AnswersShort-one (Same strands) input a b bounded first second =
     IsSameOf-one strands (two_words strands input) a b first second
 AnswersShort-one (Act strands index limit) input a b bounded first second = sym first ∙ second
-AnswersShort-one (Eval limit) input a b bounded first second = IsEvaluated-one limit input a b first second
+AnswersShort-one (Eval limit) input a b bounded first second =
+    IsOnTerm-one (λ made t. evaluated limit t) input a b first second
+AnswersShort-one (Value exponent) input a b bounded first second =
+    IsOnTerm-one (λ made t. valued exponent t) input a b first second
+AnswersShort-one (Expand address) input a b bounded first second =
+    IsOnTerm-one (expanded_at (length (lines_of input)) address) input a b first second
+AnswersShort-one Derive input a b bounded first second = IsOnTerm-one derived_in input a b first second
 AnswersShort-one (Laver exponent) input a b bounded first second = sym first ∙ second
 AnswersShort-one (Row exponent row) input a b bounded first second = sym first ∙ second
 AnswersShort-one Session input a b bounded first second = sym first ∙ second
@@ -261,6 +270,9 @@ reads_first-reads (Normal strands) first = refl
 reads_first-reads (Same strands) first = refl
 reads_first-reads (Act strands index limit) first = refl
 reads_first-reads (Eval limit) first = refl
+reads_first-reads (Value exponent) first = refl
+reads_first-reads (Expand address) first = refl
+reads_first-reads Derive first = refl
 reads_first-reads (Laver exponent) first = first
 reads_first-reads (Row exponent row) first = first
 reads_first-reads Session first = refl
@@ -279,6 +291,9 @@ once-alone (Normal strands) alone once = alone
 once-alone (Same strands) alone once = alone
 once-alone (Act strands index limit) alone once = alone
 once-alone (Eval limit) alone once = alone
+once-alone (Value exponent) alone once = alone
+once-alone (Expand address) alone once = alone
+once-alone Derive alone once = alone
 once-alone (Laver exponent) alone once = refl
 once-alone (Row exponent row) alone once = refl
 once-alone Session alone once = absurd (once refl)
@@ -304,6 +319,9 @@ Answers-alone command bytes input a alone is = in_limit (λ reads. let both = sy
     go (Same strands) alone is = absurd (cc)
     go (Act strands index limit) alone is = absurd (cc)
     go (Eval limit) alone is = absurd (cc)
+    go (Value exponent) alone is = absurd (cc)
+    go (Expand address) alone is = absurd (cc)
+    go Derive alone is = absurd (cc)
     go (Laver exponent) alone is = is
     go (Row exponent row) alone is = is
     go Session alone is = absurd (cc)

@@ -1,17 +1,21 @@
 -- Laws of the commands that words are.
 --
 -- The numbers of a command are within their bounds (`command_of-IsBounded`).
-use Rattle.std.proofs.Common.{◌≡◌, ℕ, ◌-◌, ◌^◌, ◌<◌, ◌≤◌, ◌==◌, ◌&&◌, Bool, true, false, ltb, not, List, [], ◌∷◌, length, codes, Option, Some, None, refl, subst, arith}
+use Rattle.std.proofs.Common.{◌≡◌, ℕ, ◌-◌, ◌^◌, ◌<◌, ◌≤◌, ◌==◌, ◌&&◌, ◌||◌, ◌⊎◌, inl, inr, Bool, true, false, cond, ltb, eqb, not, List, All, [], ◌∷◌, length, codes, Option, Some, None, refl, sym, subst, arith}
 use Rattle.std.specs.Option.{option_map}
 use Rattle.std.specs.Str.{bytes_eq}
-use Rattle.std.proofs.lemmas.Bool.{cond_both, and_parts, ltb-false}
+use Rattle.std.proofs.lemmas.Bool.{cond_both, and_parts, and_from, eqb-true, le-ltb, ltb-false}
+use Rattle.std.specs.List.{list_all, AllByRecursion}
+use Rattle.std.proofs.lemmas.List.Elements.{All-nil, All-cons, recursion_from_All}
 use Rattle.wb_base.specs.Numbers.{number_at}
 use Rattle.handle_reduce.specs.declared.TheConstants.{MAX_BOUND}
 use Rattle.laver_table.specs.declared.TheConstants.{MAX_EXPONENT}
+use Rattle.term_expand.specs.Expansions.{IsAddress}
+use Rattle.term_expand.specs.declared.TheConstants.{MAX_ADDRESS}
 use Rattle.wb_top.specs.declared.TheConstants.{MAX_STRANDS, MAX_IMAGE, MAX_PRINTED, MAX_SIZE, MAX_COUNT}
 use Rattle.wb_top.specs.declared.command.Command.{Command}
-use Rattle.wb_top.specs.declared.command.Command.TheVariants.{Compare, Terms, Check, Normal, Same, Act, Eval, Laver, Row, Session, Bench}
-use Rattle.wb_top.specs.Commands.{whole_number, number_of, one_number, both, two_numbers, check_of, act_by, act_on, act_of, session_of, row_by, row_in, row_of_numbers, pairs_by, bench_by, bench_of, command_of, IsBounded}
+use Rattle.wb_top.specs.declared.command.Command.TheVariants.{Compare, Terms, Check, Normal, Same, Act, Eval, Value, Expand, Derive, Laver, Row, Session, Bench}
+use Rattle.wb_top.specs.Commands.{whole_number, number_of, one_number, both, two_numbers, check_of, act_by, act_on, act_of, is_side, sides_of, address_of, expand_of, derive_of, session_of, row_by, row_in, row_of_numbers, pairs_by, bench_by, bench_of, command_of, IsBounded}
 use Rattle.wb_top.specs.Benching.{IsBoundedPairs}
 use Rattle.wb_top.specs.declared.bench.Pairs.{Pairs}
 
@@ -97,12 +101,7 @@ bench_of-many (a ∷ (b ∷ (c ∷ (d ∷ (e ∷ []))))) many = refl
 bench_of-many (a ∷ (b ∷ (c ∷ (d ∷ (e ∷ (f ∷ [])))))) many = absurd (omega arith)
 bench_of-many (a ∷ (b ∷ (c ∷ (d ∷ (e ∷ (f ∷ (g ∷ rest))))))) many = refl
 
--- ---- Bounds ----
-
--- a number within its bounds
-record IsBetween (low high n : ℕ) : Type 0 where
-  above : low ≤ n
-  below : n ≤ high
+-- ---- Addresses ----
 
 -- a number that isn't less
 at_least : (a b : ℕ) → not (ltb a b) ≡ true → b ≤ a
@@ -111,6 +110,95 @@ at_least a b pass = go (ltb a b) refl pass
     go : (less : Bool) → ltb a b ≡ less → not less ≡ true → b ≤ a
     go true test pass = absurd (cc)
     go false test pass = ltb-false a b test
+
+-- a byte that passes the test is a side
+is_side-true : (byte : ℕ) → is_side byte ≡ true → (byte ≡ 48) ⊎ (byte ≡ 49)
+is_side-true byte pass = go (eqb byte 48) refl pass
+  where
+    go : (left : Bool) → eqb byte 48 ≡ left → (left || eqb byte 49) ≡ true → (byte ≡ 48) ⊎ (byte ≡ 49)
+    go true left pass = inl (eqb-true byte 48 left)
+    go false left pass = inr (eqb-true byte 49 pass)
+
+-- and a side passes it
+side-is_side : (byte : ℕ) → (byte ≡ 48) ⊎ (byte ≡ 49) → is_side byte ≡ true
+side-is_side byte (inl left) = rw left refl
+side-is_side byte (inr right) = rw right refl
+
+-- sides that pass it are sides
+list_all-sides
+    : (bytes : List ℕ)
+    → list_all is_side bytes ≡ true
+    → All (λ byte. (byte ≡ 48) ⊎ (byte ≡ 49)) bytes
+list_all-sides [] pass = All-nil (λ byte. (byte ≡ 48) ⊎ (byte ≡ 49))
+list_all-sides (byte ∷ bytes) pass =
+    let (first, rest) = and_parts (is_side byte) (list_all is_side bytes) pass in
+    All-cons (λ byte. (byte ≡ 48) ⊎ (byte ≡ 49)) byte bytes (is_side-true byte first) (list_all-sides bytes rest)
+
+-- and sides pass it
+sides-list_all
+    : (bytes : List ℕ)
+    → AllByRecursion (λ byte. (byte ≡ 48) ⊎ (byte ≡ 49)) bytes
+    → list_all is_side bytes ≡ true
+sides-list_all [] sides = refl
+sides-list_all (byte ∷ bytes) (first, rest) =
+    and_from (is_side byte) (list_all is_side bytes) (side-is_side byte first) (sides-list_all bytes rest)
+
+-- an address is read as one
+pub sides_of-address : (sides : List ℕ) → IsAddress sides → sides_of sides ≡ Some sides
+sides_of-address sides address =
+    let sides_pass = sides-list_all sides (recursion_from_All (λ byte. (byte ≡ 48) ⊎ (byte ≡ 49)) sides address.sides) in
+    rw (le-ltb MAX_ADDRESS (length sides) address.short, sides_pass) refl
+
+-- what is read as an address is one
+sides_of-Some
+    : (sides address : List ℕ)
+    → sides_of sides ≡ Some address
+    → (address ≡ sides) × IsAddress sides
+sides_of-Some sides address is =
+    cond_both (not (ltb MAX_ADDRESS (length sides)) && list_all is_side sides) _ _
+    (λ (o : Option (List ℕ)). o ≡ Some address → (address ≡ sides) × IsAddress sides)
+    (λ pass found.
+    let (short, all) = and_parts (not (ltb MAX_ADDRESS (length sides))) (list_all is_side sides) pass in
+    let same : sides ≡ address = cc in
+    (sym same, record { short = at_least MAX_ADDRESS (length sides) short; sides = list_all-sides sides all }))
+    (λ fail found. absurd cc)
+    is
+
+-- what is no address isn't read
+pub sides_of-none : (sides : List ℕ) → (IsAddress sides → ⊥) → sides_of sides ≡ None
+sides_of-none sides none = go (sides_of sides) refl
+  where
+    go : (found : Option (List ℕ)) → sides_of sides ≡ found → sides_of sides ≡ None
+    go None is = is
+    go (Some address) is = absurd (none (sides_of-Some sides address is).1)
+
+-- the address that a word is, behind its dot
+pub address_of-read
+    : (word sides : List ℕ) (dot : ℕ)
+    → word ≡ dot ∷ sides
+    → dot ≡ 46
+    → IsAddress sides
+    → Some sides ≡ address_of word
+address_of-read word sides dot is same address = rw (is, same) (sym (sides_of-address sides address))
+
+-- a word that is none
+pub address_of-none
+    : (word sides : List ℕ) (dot : ℕ)
+    → word ≡ dot ∷ sides
+    → (dot ≡ 46 → IsAddress sides → ⊥)
+    → None ≡ address_of word
+address_of-none word sides dot is none = rw is (go (eqb dot 46) refl)
+  where
+    go : (b : Bool) → eqb dot 46 ≡ b → None ≡ cond b (sides_of sides) None
+    go true same = sym (sides_of-none sides (none (eqb-true dot 46 same)))
+    go false other = refl
+
+-- ---- Bounds ----
+
+-- a number within its bounds
+record IsBetween (low high n : ℕ) : Type 0 where
+  above : low ≤ n
+  below : n ≤ high
 
 -- a number that is the whole word is within its bounds
 whole_number-within
@@ -180,6 +268,34 @@ check_of-IsBounded
     → IsBounded command
 check_of-IsBounded [] command is = let same : Check ≡ command = cc in subst IsBounded same tt
 check_of-IsBounded (a ∷ rest) command is = cc
+
+-- nor has `derive`
+derive_of-IsBounded
+    : (numbers : List (List ℕ)) (command : Command)
+    → derive_of numbers ≡ Some command
+    → IsBounded command
+derive_of-IsBounded [] command is = let same : Derive ≡ command = cc in subst IsBounded same tt
+derive_of-IsBounded (a ∷ rest) command is = cc
+
+-- the address of `expand`
+address_of-IsAddress : (word address : List ℕ) → address_of word ≡ Some address → IsAddress address
+address_of-IsAddress [] address is = cc
+address_of-IsAddress (byte ∷ sides) address is =
+    cond_both (eqb byte 46) _ _ (λ (o : Option (List ℕ)). o ≡ Some address → IsAddress address)
+    (λ dot found.
+    let (same, sides_are) = sides_of-Some sides address found in subst IsAddress (sym same) sides_are)
+    (λ other found. absurd cc)
+    is
+
+expand_of-IsBounded
+    : (numbers : List (List ℕ)) (command : Command)
+    → expand_of numbers ≡ Some command
+    → IsBounded command
+expand_of-IsBounded [] command is = cc
+expand_of-IsBounded (word ∷ []) command is =
+    made-IsBounded (λ address. Expand address) (address_of word) command
+    (λ address found. address_of-IsAddress word address found) is
+expand_of-IsBounded (word ∷ (other ∷ rest)) command is = cc
 
 -- nor has `session`
 session_of-IsBounded
@@ -347,6 +463,13 @@ command_of-IsBounded (name ∷ numbers) command is =
     (λ other. cond_both (bytes_eq name (codes "eval")) _ _ Bounds
     (λ named. made-IsBounded (λ n. Eval n) (one_number 0 MAX_BOUND numbers) command
     (λ n is. (one_number-within 0 MAX_BOUND numbers n is).below))
+    (λ other. cond_both (bytes_eq name (codes "value")) _ _ Bounds
+    (λ named. made-IsBounded (λ n. Value n) (one_number 0 MAX_EXPONENT numbers) command
+    (λ n is. (one_number-within 0 MAX_EXPONENT numbers n is).below))
+    (λ other. cond_both (bytes_eq name (codes "expand")) _ _ Bounds
+    (λ named. expand_of-IsBounded numbers command)
+    (λ other. cond_both (bytes_eq name (codes "derive")) _ _ Bounds
+    (λ named. derive_of-IsBounded numbers command)
     (λ other. cond_both (bytes_eq name (codes "laver")) _ _ Bounds
     (λ named. made-IsBounded (λ n. Laver n) (one_number 0 MAX_PRINTED numbers) command
     (λ n is. (one_number-within 0 MAX_PRINTED numbers n is).below))
@@ -356,5 +479,5 @@ command_of-IsBounded (name ∷ numbers) command is =
     (λ named. session_of-IsBounded numbers command)
     (λ other. cond_both (bytes_eq name (codes "bench")) _ _ Bounds
     (λ named. bench_of-IsBounded numbers command)
-    (λ other found. absurd cc)))))))))))
+    (λ other found. absurd cc))))))))))))))
     is

@@ -6,5 +6,6 @@ pub mod AnswerLemmas
 pub mod TermAnswerLemmas
 pub mod TraceLengths
 pub mod AcceptedTraces
+pub mod TermVerdictLemmas
 pub mod VerdictLemmas
 pub mod SessionLemmas

@@ -4,9 +4,11 @@ use Rattle.std.specs.List.{AllByRecursion}
 use Rattle.std.proofs.lemmas.Fmt.{length-decimal-le_wide}
 use Rattle.wb_base.specs.Lines.{line}
 use Rattle.handle_reduce.specs.declared.TheConstants.{MAX_BOUND}
-use Rattle.trace_format.specs.declared.line.Line.TheVariants as lines
-use Rattle.trace_format.specs.TraceText.{Trace, word_field, step_text, step_line, handle_step, verdict_word, head_text, tail_text, trace_text}
-use Rattle.trace_format.specs.TraceLines.{IsPlace, IsStepLine, IsTrace}
+use Rattle.trace_format.specs.Said as said
+use Rattle.trace_format.specs.TraceText.{Header, Trace, word_field, step_text, step_line, handle_step, verdict_word, head_text, tail_text, trace_text}
+use Rattle.trace_format.specs.TraceLines.{line_text, IsPlace, IsStepLine, IsHeader, IsTrace}
+use Rattle.trace_format.proofs.TraceLaws.{left_line, right_line, head_text-lines, IsLine-left_line, IsLine-right_line}
+use Rattle.trace_check.specs.declared.TheConstants.{MAX_LINE}
 use Rattle.trace_check.proofs.LineLengths.{length-line_text}
 use Rattle.wb_top.specs.declared.TheConstants.{MAX_INPUT}
 
@@ -45,6 +47,24 @@ length-handle_lines ((p, q) ∷ places) are =
       length-append (step_line (handle_step (p, q))) (flat_map step_line (map handle_step places)),
     )
 
+-- the lines before the steps
+length-head_text : (h : Header) → IsHeader h → length (head_text h) ≤ 2 * MAX_LINE + 20
+length-head_text h is =
+    let left = length-line_text (left_line h) (IsLine-left_line h is) in
+    let right = length-line_text (right_line h) (IsLine-right_line h is) in
+    let start : List ℕ = line (codes "braid-trace 1") in
+    let first : List ℕ = line (line_text (left_line h)) in
+    let second : List ℕ = line (line_text (right_line h)) in
+    subst (λ (text : List ℕ). length text ≤ 2 * MAX_LINE + 20) (sym (head_text-lines h)) (omega (
+      arith,
+      left,
+      right,
+      length-line (line_text (left_line h)),
+      length-line (line_text (right_line h)),
+      length-append start first,
+      length-append (start ++ first) second,
+    ))
+
 -- the trace of a run that makes no more reductions than it may is no longer than an input may be
 pub length-trace_text
     : (t : Trace) (places : List (ℕ × ℕ))
@@ -54,12 +74,10 @@ pub length-trace_text
     → length (trace_text t) ≤ MAX_INPUT
 unfolding trace_text
 length-trace_text t places is steps few =
-    let start = length-line_text lines.Start tt in
-    let left = length-line_text (lines.Left t.left) is.left in
-    let right = length-line_text (lines.Right t.right) is.right in
-    let verdict = length-line_text (lines.Verdict t.verdict) tt in
-    let witness = length-line_text (lines.Witness t.witness) is.witness in
-    let finish = length-line_text lines.Finish tt in
+    let head = length-head_text t.header is.header in
+    let verdict = length-line_text (said.verdict t.verdict) tt in
+    let witness = length-line_text (said.witness t.witness) is.witness in
+    let finish = length-line_text said.finish tt in
     let all : length (flat_map step_line t.steps) ≤ 24 * length places
     = subst (λ ss. length (flat_map step_line ss) ≤ 24 * length places) (sym steps)
     (length-handle_lines places (subst (AllByRecursion IsStepLine) steps is.steps)) in
@@ -67,26 +85,18 @@ length-trace_text t places is steps few =
       arith,
       few,
       all,
-      start,
-      left,
-      right,
+      head,
       verdict,
       witness,
       finish,
-      length-line (codes "braid-trace 1"),
-      length-line (codes "left" ++ word_field t.left),
-      length-line (codes "right" ++ word_field t.right),
       length-line (codes "verdict " ++ verdict_word t.verdict),
       length-line (codes "witness" ++ word_field t.witness),
       length-line (codes "end"),
-      length-append (line (codes "braid-trace 1")) (line (codes "left" ++ word_field t.left)),
-      length-append (line (codes "braid-trace 1") ++ line (codes "left" ++ word_field t.left))
-          (line (codes "right" ++ word_field t.right)),
       length-append (line (codes "verdict " ++ verdict_word t.verdict))
           (line (codes "witness" ++ word_field t.witness)),
       length-append (line (codes "verdict " ++ verdict_word t.verdict)
           ++ line (codes "witness" ++ word_field t.witness)) (line (codes "end")),
-      length-append (head_text t.left t.right) (flat_map step_line t.steps),
-      length-append (head_text t.left t.right ++ flat_map step_line t.steps)
+      length-append (head_text t.header) (flat_map step_line t.steps),
+      length-append (head_text t.header ++ flat_map step_line t.steps)
           (tail_text t.verdict t.witness),
     )

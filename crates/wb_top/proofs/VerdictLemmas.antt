@@ -5,11 +5,9 @@
 -- trace (`IsChecked-checked`), and what it refuses isn't (`Refused-Told`); what `act` writes is an image
 -- (`HasImage-acted`), what `normal` writes is the normal form (`HasNormalForm-IsNormalOf`), and what `same`
 -- says is so (`HasDecision-IsSameOf`). So what the program's answer says of its input is true (`Says-Told`).
-use Rattle.std.proofs.Common.{◌≡◌, ◌↔◌, ◌⊎◌, inl, inr, ℕ, ◌+◌, ◌≤◌, max, Bool, true, false, cond, List, [], ◌∷◌, length, codes, Option, Some, None, Result, Ok, Err, IfSome, refl, sym, ap, subst, ◌∙◌, ◌^◌, ltb, arith}
+use Rattle.std.proofs.Common.{◌≡◌, ◌↔◌, ◌⊎◌, inl, inr, ℕ, ◌+◌, ◌≤◌, Bool, true, false, cond, List, [], ◌∷◌, length, codes, Option, Some, None, Result, Ok, Err, IfSome, refl, sym, ap, subst, ◌∙◌, ◌^◌, ltb, arith}
 use Rattle.std.specs.Option.{option_map}
 use Rattle.std.specs.Io.KnownBytes.{append_known}
-use Rattle.std.proofs.lemmas.Bool.{cond_both, ltb-false}
-use Rattle.std.proofs.Math.Nat.{le-max_left, le-max_right}
 use Rattle.wb_base.specs.Lines.{lines_of, line}
 use Rattle.wb_base.specs.declared.status.Status.{Status}
 use Rattle.wb_base.specs.declared.status.Status.TheVariants.{Done, Refused, Input, Limit}
@@ -31,8 +29,8 @@ use Rattle.laver_table.specs.TableText.{row_line, table_text}
 use Rattle.laver_table.proofs.LaverLemmas.{IsLaver-product_rows, IsLaver-only}
 use Rattle.trace_format.specs.declared.verdict.Verdict.{Verdict}
 use Rattle.trace_format.specs.Verdicts.{verdict_of}
-use Rattle.trace_format.specs.TraceText.{Trace, trace_text, term_trace_text}
-use Rattle.trace_check.specs.Accepted.{IsAccepted, IsValid, Claim}
+use Rattle.trace_format.specs.TraceText.{words as of_words, Trace, trace_text}
+use Rattle.trace_check.specs.Accepted.{IsAccepted, Claim}
 use Rattle.trace_check.specs.Checking.{checked_of}
 use Rattle.trace_check.specs.declared.checked.Why.{Why}
 use Rattle.trace_check.proofs.AcceptedLemmas.{IsValid-accepted, IsStepOn-handle_step}
@@ -40,7 +38,7 @@ use Rattle.trace_check.proofs.CheckingLaws.{checked_of-accepted, accepted-checke
 use Rattle.trace_check.proofs.RefusalLaws.{checked_of-IsFirstRefusal}
 use Rattle.wb_top.specs.declared.TheConstants.{MAX_INPUT, MAX_STRANDS}
 use Rattle.wb_top.specs.declared.command.Command.{Command}
-use Rattle.wb_top.specs.declared.command.Command.TheVariants.{Compare, Terms, Check, Normal, Same, Act, Eval, Laver, Row, Session, Bench}
+use Rattle.wb_top.specs.declared.command.Command.TheVariants.{Compare, Terms, Check, Normal, Same, Act, Eval, Value, Expand, Derive, Laver, Row, Session, Bench}
 use Rattle.wb_top.specs.declared.input.Fault.{Fault}
 use Rattle.session_run.specs.declared.TheConstants as limits
 use Rattle.session_run.specs.Conversation.{answers}
@@ -48,23 +46,17 @@ use Rattle.wb_top.specs.Commands.{command_of, reads_input, IsBounded}
 use Rattle.wb_top.specs.Inputs.{one_word, two_words}
 use Rattle.wb_top.specs.Answer.{Answer, answer, limit_met, Told}
 use Rattle.wb_top.specs.Reductions.{ended, run_answer, trace_of}
-use Rattle.wb_top.specs.TermAnswers.{file_refused, evaluated, IsEvaluated, eval_refused, eval_read, term_trace_of, terms_compared, AreCompared, terms_refused, terms_read}
-use Rattle.braid_word.specs.Notation.{IsReadable}
-use Rattle.ld_term.specs.Terms.{Term, height}
-use Rattle.term_graph.specs.TermLists.{term_at, braid_length}
-use Rattle.term_graph.specs.TermFiles.{IsTermFile}
-use Rattle.term_graph.specs.declared.file_error.DefsErr.{DefsErr}
-use Rattle.term_graph.specs.declared.file_error.DefsErr.TheVariants as refusals
-use Rattle.term_eval.specs.Braids.{braid}
-use Rattle.term_eval.proofs.BraidLemmas.{length-braid, on-written}
+use Rattle.wb_top.specs.TermAnswers.{evaluated, valued}
 use Rattle.wb_top.specs.Answers.{compared_words, accepted_text, checked, images_fit, acted_word, whole_table, table_row, same_text, different_text, IsNormalOf, are_same, are_different, IsSameOf, conversed, AnswersShort, Answers, past_limit, in_limit, AnswersWords, IsAnswer}
-use Rattle.wb_top.specs.Promises.{HasVerdict, HasTermVerdict, HasBraid, IsChecked, HasRefusal, HasNormalForm, HasDecision, HasImage, HasTable, HasRow, Says}
+use Rattle.wb_top.specs.Promises.{HasVerdict, IsChecked, HasRefusal, HasNormalForm, HasDecision, HasImage, HasTable, HasRow, Says}
 use Rattle.handle_reduce.proofs.RunLemmas.{length-steps}
 use Rattle.wb_top.proofs.TraceLengths.{length-trace_text}
 use Rattle.wb_top.proofs.InputLemmas.{one_word-IsReadOn, two_words-IsReadOn, two_words-more_strands}
 use Rattle.wb_top.proofs.AnswerLemmas.{images_fit-ImagesFit}
 use Rattle.wb_top.proofs.CommandLemmas.{command_of-IsBounded}
 use Rattle.wb_top.proofs.AcceptedTraces.{IsAccepted-Done}
+use Rattle.wb_top.specs.ExpansionAnswers.{expanded_at, derived_in}
+use Rattle.wb_top.proofs.TermVerdictLemmas.{status-of, done-Refused, ended-Refused, HasTermVerdict-AreCompared, AreCompared-Refused, HasBraid-Done, evaluated-Refused, HasValue-Done, listed-Refused, HasExpansion-Done, expansion_answer-Refused, HasDerivation-Done, IsOnTerm-Refused}
 
 -- ---- The answer of `compare` ----
 
@@ -78,20 +70,23 @@ HasVerdict-Done
     → two_words (MAX_INDEX + 1) input ≡ Ok (u, v)
     → run.progress ≡ progress.Done sign
     → verdict_of sign ≡ o
-    → option_map (λ (d : Verdict). answer Done (trace_text (trace_of u v run d))) o ≡ Some a
+    → option_map (λ (d : Verdict). answer Done (trace_text (trace_of (of_words u v) run d))) o ≡ Some a
     → HasVerdict input a.text
-HasVerdict-Done handles limit input u v sign None a few bounded words stands gives is = cc
-HasVerdict-Done handles limit input u v sign (Some verdict) a few bounded words stands gives is =
-    let (left, right) = two_words-IsReadOn (MAX_INDEX + 1) input u v words in
+HasVerdict-Done handles limit input u v sign None a few bounded read stands gives is = cc
+HasVerdict-Done handles limit input u v sign (Some verdict) a few bounded read stands gives is =
+    let (left, right) = two_words-IsReadOn (MAX_INDEX + 1) input u v read in
     let run : RunState = run_after (quotient u v) handles limit handles in
-    let trace : Trace = trace_of u v run verdict in
+    let trace : Trace = trace_of (of_words u v) run verdict in
     let text : trace_text trace ≡ a.text = ap (λ (b : Answer). b.text) (let same : answer Done (trace_text trace) ≡ a = cc in same) in
     let accepted : IsAccepted a.text trace
     = subst (λ bytes. IsAccepted bytes trace) text
-    (IsAccepted-Done u v handles limit handles sign verdict left.readable right.readable bounded stands gives) in
+    (IsAccepted-Done (of_words u v) handles limit handles sign verdict (left.readable, right.readable) bounded stands gives) in
     record {
+      left = u;
+      right = v;
+      read = read;
       trace = trace;
-      words = words;
+      header = refl;
       accepted = accepted;
       short = subst (λ bytes. length bytes ≤ MAX_INPUT) text
           (length-trace_text trace run.steps accepted.bounds refl
@@ -101,22 +96,6 @@ HasVerdict-Done handles limit input u v sign (Some verdict) a few bounded words 
           (IsValid-accepted a.text trace accepted).equal n left right (IsStepOn-handle_step n run.steps);
     }
 
--- the status of what is answered
-status-of : (a b : Answer) (s : Status) → Some a ≡ Some b → b.status ≡ s → a.status ≡ s
-status-of a b s is status = ap (λ (c : Answer). c.status) (let same : a ≡ b = cc in same) ∙ status
-
--- a term file that is refused isn't done
-file_refused-Done : (e : DefsErr) → (file_refused e).status ≡ Done → ⊥
-file_refused-Done (refusals.Lines k) done = cc
-file_refused-Done (refusals.Form k place) done = cc
-file_refused-Done (refusals.TooDeep k height) done = cc
-file_refused-Done (refusals.TooMany k products) done = cc
-file_refused-Done (refusals.Twice k place) done = cc
-file_refused-Done (refusals.Unknown k place) done = cc
-file_refused-Done refusals.Height done = cc
-file_refused-Done refusals.Nodes done = cc
-file_refused-Done refusals.Memory done = cc
-
 -- what a run gives that stands so
 HasVerdict-ended
     : (handles limit : ℕ) (input : List ℕ) (u v : List Letter) (p : Progress) (a : Answer)
@@ -125,184 +104,32 @@ HasVerdict-ended
     → limit ≤ MAX_BOUND
     → two_words (MAX_INDEX + 1) input ≡ Ok (u, v)
     → run.progress ≡ p
-    → ended (λ (d : Verdict). trace_text (trace_of u v run d)) handles limit p ≡ Some a
+    → ended (λ (d : Verdict). trace_text (trace_of (of_words u v) run d)) handles limit p ≡ Some a
     → a.status ≡ Done
     → HasVerdict input a.text
-HasVerdict-ended handles limit input u v progress.Running a few bounded words stands is done = cc
-HasVerdict-ended handles limit input u v (progress.Done sign) a few bounded words stands is done =
-    HasVerdict-Done handles limit input u v sign _ a few bounded words stands refl is
-HasVerdict-ended handles limit input u v progress.HandlesMet a few bounded words stands is done =
+HasVerdict-ended handles limit input u v progress.Running a few bounded read stands is done = cc
+HasVerdict-ended handles limit input u v (progress.Done sign) a few bounded read stands is done =
+    HasVerdict-Done handles limit input u v sign _ a few bounded read stands refl is
+HasVerdict-ended handles limit input u v progress.HandlesMet a few bounded read stands is done =
     let other = status-of _ a Done is done in cc
-HasVerdict-ended handles limit input u v progress.LengthMet a few bounded words stands is done =
+HasVerdict-ended handles limit input u v progress.LengthMet a few bounded read stands is done =
     let other = status-of _ a Done is done in cc
 
 -- `compare` on the words of an input
 HasVerdict-compared
-    : (handles limit : ℕ) (input : List ℕ) (words : Result (List Letter × List Letter) Fault)
+    : (handles limit : ℕ) (input : List ℕ) (found : Result (List Letter × List Letter) Fault)
     (a : Answer)
     → handles ≤ MAX_BOUND
     → limit ≤ MAX_BOUND
-    → two_words (MAX_INDEX + 1) input ≡ words
-    → compared_words handles limit words ≡ Some a
+    → two_words (MAX_INDEX + 1) input ≡ found
+    → compared_words handles limit found ≡ Some a
     → a.status ≡ Done
     → HasVerdict input a.text
 unfolding run_answer
-HasVerdict-compared handles limit input (Err fault) a few bounded words is done =
+HasVerdict-compared handles limit input (Err fault) a few bounded read is done =
     let other = status-of _ a Done is done in cc
-HasVerdict-compared handles limit input (Ok (u, v)) a few bounded words is done =
-    HasVerdict-ended handles limit input u v _ a few bounded words refl is done
-
--- ---- The answer of `terms` ----
-
--- A term whose braid word can be read.
-record HasReadable (t : Term) : Type 0 where
-  word : IsReadable (braid t)
-
--- a braid word that is neither too long nor has too great an index
-HasReadable-braid : (t : Term) → braid_length t ≤ MAX_BOUND → height t ≤ MAX_INDEX → HasReadable t
-HasReadable-braid t short low = record {
-  word = record {
-    short = omega (arith, length-braid t);
-    on = on-written t (braid t) MAX_INDEX refl low;
-  };
-}
-
--- a run of the quotient of two braid words that is done
-HasTermVerdict-Done
-    : (handles limit : ℕ) (input : List ℕ) (made : List Term) (first second : ℕ) (sign : Sign)
-    (o : Option Verdict) (a : Answer)
-    → let t = term_at made first in
-    let u = term_at made second in
-    let run = run_after (quotient (braid t) (braid u)) handles limit handles in
-    limit ≤ MAX_BOUND
-    → IsTermFile 2 (lines_of input) made first (Some second)
-    → HasReadable t
-    → HasReadable u
-    → run.progress ≡ progress.Done sign
-    → verdict_of sign ≡ o
-    → option_map (λ (d : Verdict). answer Done (term_trace_text (term_trace_of t u run d))) o ≡ Some a
-    → HasTermVerdict input a.text
-HasTermVerdict-Done handles limit input made first second sign None a bounded file left right stands gives is = cc
-HasTermVerdict-Done handles limit input made first second sign (Some verdict) a bounded file left right stands gives is =
-    let t : Term = term_at made first in
-    let u : Term = term_at made second in
-    let run : RunState = run_after (quotient (braid t) (braid u)) handles limit handles in
-    let trace : Trace = trace_of (braid t) (braid u) run verdict in
-    let accepted : IsAccepted (trace_text trace) trace
-    = IsAccepted-Done (braid t) (braid u) handles limit handles sign verdict left.word right.word bounded stands gives in
-    let valid : IsValid trace = IsValid-accepted (trace_text trace) trace accepted in
-    record {
-      made = made;
-      first = first;
-      second = second;
-      file = file;
-      trace = trace;
-      left = refl;
-      right = refl;
-      valid = valid;
-      equal = λ n left right. valid.equal n left right (IsStepOn-handle_step n run.steps);
-      is = ap (λ (b : Answer). b.text)
-          (let same : a ≡ answer Done (term_trace_text (term_trace_of t u run verdict)) = cc in same);
-    }
-
--- what such a run gives that stands so
-HasTermVerdict-ended
-    : (handles limit : ℕ) (input : List ℕ) (made : List Term) (first second : ℕ) (p : Progress)
-    (a : Answer)
-    → let t = term_at made first in
-    let u = term_at made second in
-    let run = run_after (quotient (braid t) (braid u)) handles limit handles in
-    limit ≤ MAX_BOUND
-    → IsTermFile 2 (lines_of input) made first (Some second)
-    → HasReadable t
-    → HasReadable u
-    → run.progress ≡ p
-    → ended (λ (d : Verdict). term_trace_text (term_trace_of t u run d)) handles limit p ≡ Some a
-    → a.status ≡ Done
-    → HasTermVerdict input a.text
-HasTermVerdict-ended handles limit input made first second progress.Running a bounded file left right stands is done = cc
-HasTermVerdict-ended handles limit input made first second (progress.Done sign) a bounded file left right stands is done =
-    HasTermVerdict-Done handles limit input made first second sign _ a bounded file left right stands refl is
-HasTermVerdict-ended handles limit input made first second progress.HandlesMet a bounded file left right stands is done =
-    let other = status-of _ a Done is done in cc
-HasTermVerdict-ended handles limit input made first second progress.LengthMet a bounded file left right stands is done =
-    let other = status-of _ a Done is done in cc
-
--- `terms` on two terms
-HasTermVerdict-compared
-    : (handles limit : ℕ) (input : List ℕ) (made : List Term) (first second : ℕ) (a : Answer)
-    → limit ≤ MAX_BOUND
-    → IsTermFile 2 (lines_of input) made first (Some second)
-    → terms_compared handles limit (term_at made first) (term_at made second) ≡ Some a
-    → a.status ≡ Done
-    → HasTermVerdict input a.text
-unfolding run_answer
-HasTermVerdict-compared handles limit input made first second a bounded file is done =
-    let t : Term = term_at made first in
-    let u : Term = term_at made second in
-    let Holds : Option Answer → Type 0 = λ o. o ≡ Some a → HasTermVerdict input a.text in
-    cond_both (ltb limit (braid_length t + braid_length u)) _ _ Holds
-    (λ long met. let other = status-of _ a Done met done in cc)
-    (λ short. let short = ltb-false limit (braid_length t + braid_length u) short in
-    cond_both (ltb MAX_INDEX (max (height t) (height u))) _ _ Holds
-    (λ high met. let other = status-of _ a Done met done in cc)
-    (λ low met. let low = ltb-false MAX_INDEX (max (height t) (height u)) low in
-    HasTermVerdict-ended handles limit input made first second _ a bounded file
-    (HasReadable-braid t (omega arith) (omega (arith, le-max_left (height t) (height u))))
-    (HasReadable-braid u (omega arith) (omega (arith, le-max_right (height t) (height u))))
-    refl met done))
-    is
-
--- `terms` on an input
-HasTermVerdict-AreCompared
-    : (handles limit : ℕ) (input : List ℕ) (a : Answer)
-    → limit ≤ MAX_BOUND
-    → AreCompared handles limit input a
-    → a.status ≡ Done
-    → HasTermVerdict input a.text
-HasTermVerdict-AreCompared handles limit input a bounded (terms_refused e refused is) done =
-    absurd (file_refused-Done e (ap (λ (b : Answer). b.status) is ∙ done))
-HasTermVerdict-AreCompared handles limit input a bounded (terms_read made first second file is) done =
-    HasTermVerdict-compared handles limit input made first second a bounded file is done
-
--- ---- The answer of `eval` ----
-
--- a braid word that is answered is the term's
-HasBraid-evaluated
-    : (limit : ℕ) (input : List ℕ) (made : List Term) (first : ℕ) (a : Answer)
-    → IsTermFile 1 (lines_of input) made first None
-    → evaluated limit (term_at made first) ≡ a
-    → a.status ≡ Done
-    → HasBraid limit input a.text
-HasBraid-evaluated limit input made first a file is done =
-    let t : Term = term_at made first in
-    let Holds : Answer → Type 0 = λ b. b ≡ a → HasBraid limit input a.text in
-    cond_both (ltb limit (braid_length t)) _ _ Holds
-    (λ long met. let other : Limit ≡ Done = ap (λ (b : Answer). b.status) met ∙ done in absurd (cc))
-    (λ short. let short = ltb-false limit (braid_length t) short in
-    cond_both (ltb MAX_INDEX (height t)) _ _ Holds
-    (λ high met. let other : Limit ≡ Done = ap (λ (b : Answer). b.status) met ∙ done in absurd (cc))
-    (λ low met. let low = ltb-false MAX_INDEX (height t) low in
-    record {
-      made = made;
-      first = first;
-      file = file;
-      short = omega (arith, length-braid t);
-      on = on-written t (braid t) MAX_INDEX refl low;
-      is = ap (λ (b : Answer). b.text) (sym met);
-    }))
-    is
-
--- `eval` on an input
-HasBraid-IsEvaluated
-    : (limit : ℕ) (input : List ℕ) (a : Answer)
-    → IsEvaluated limit input a
-    → a.status ≡ Done
-    → HasBraid limit input a.text
-HasBraid-IsEvaluated limit input a (eval_refused e refused is) done =
-    absurd (file_refused-Done e (ap (λ (b : Answer). b.status) is ∙ done))
-HasBraid-IsEvaluated limit input a (eval_read made first file is) done =
-    HasBraid-evaluated limit input made first a file is done
+HasVerdict-compared handles limit input (Ok (u, v)) a few bounded read is done =
+    HasVerdict-ended handles limit input u v _ a few bounded read refl is done
 
 -- ---- The answer of `check` ----
 
@@ -435,10 +262,10 @@ HasDecision-of strands input text u v few words either exact =
       either = either;
       same = exact;
       agrees = λ trace verdict.
-          agree verdict.trace.left verdict.trace.right
+          agree verdict.left verdict.right
           (let wide = two_words-more_strands strands (MAX_INDEX + 1) input u v (omega arith) words in
-          let both : ◌≡◌ {A = Result (List Letter × List Letter) Fault} (Ok (u, v)) (Ok (verdict.trace.left, verdict.trace.right)) = sym wide ∙ verdict.words in
-          let pair : ◌≡◌ {A = List Letter × List Letter} (u, v) (verdict.trace.left, verdict.trace.right) = cc in pair)
+          let both : ◌≡◌ {A = Result (List Letter × List Letter) Fault} (Ok (u, v)) (Ok (verdict.left, verdict.right)) = sym wide ∙ verdict.read in
+          let pair : ◌≡◌ {A = List Letter × List Letter} (u, v) (verdict.left, verdict.right) = cc in pair)
           (verdict.equal strands) left.on right.on;
     }
   where
@@ -520,7 +347,7 @@ Says-AnswersShort
 Says-AnswersShort (Compare handles limit) input a bounded is done =
     HasVerdict-compared handles limit input (two_words (MAX_INDEX + 1) input) a bounded.0 bounded.1 refl is done
 Says-AnswersShort (Terms handles limit) input a bounded is done =
-    HasTermVerdict-AreCompared handles limit input a bounded.1 is done
+    HasTermVerdict-AreCompared handles limit input a bounded.0 bounded.1 is done
 Says-AnswersShort Check input a bounded is done =
     IsChecked-checked input (checked_of input) a refl is done
 Says-AnswersShort (Normal strands) input a bounded is done =
@@ -529,7 +356,11 @@ Says-AnswersShort (Same strands) input a bounded is done =
     HasDecision-IsSameOf strands input (two_words strands input) a bounded.1 refl is done
 Says-AnswersShort (Act strands index limit) input a bounded is done =
     HasImage-acted strands index limit input (one_word strands input) a refl is done
-Says-AnswersShort (Eval limit) input a bounded is done = HasBraid-IsEvaluated limit input a is done
+Says-AnswersShort (Eval limit) input a bounded is done = HasBraid-Done limit input a is done
+Says-AnswersShort (Value exponent) input a bounded is done = HasValue-Done exponent input a is done
+Says-AnswersShort (Expand address) input a bounded is done =
+    HasExpansion-Done (length (lines_of input)) address input a is done
+Says-AnswersShort Derive input a bounded is done = HasDerivation-Done input a is done
 Says-AnswersShort (Laver exponent) input a bounded is done =
     subst (λ (b : Answer). HasTable exponent b.text) is (HasTable-whole_table exponent)
 Says-AnswersShort (Row exponent row) input a bounded is done =
@@ -572,28 +403,6 @@ Says-Told words command a (Some input) s old new known is told done =
 
 -- ---- What is refused ----
 
--- what is done isn't refused
-done-Refused : (a b : Answer) → a ≡ b → a.status ≡ Done → b.status ≡ Refused → ⊥
-done-Refused a b same done refused =
-    let other : Done ≡ Refused = sym done ∙ ap (λ (c : Answer). c.status) same ∙ refused in cc
-
--- a run that has ended isn't refused
-ended-Refused
-    : (text : Verdict → List ℕ) (handles limit : ℕ) (p : Progress) (a : Answer)
-    → ended text handles limit p ≡ Some a
-    → a.status ≡ Refused
-    → ⊥
-ended-Refused text handles limit progress.Running a is refused = cc
-ended-Refused text handles limit (progress.Done sign) a is refused = decided (verdict_of sign) is
-  where
-    decided : (o : Option Verdict) → option_map (λ (d : Verdict). answer Done (text d)) o ≡ Some a → ⊥
-    decided None is = cc
-    decided (Some verdict) is = let other = status-of _ a Refused is refused in cc
-ended-Refused text handles limit progress.HandlesMet a is refused =
-    let other = status-of _ a Refused is refused in cc
-ended-Refused text handles limit progress.LengthMet a is refused =
-    let other = status-of _ a Refused is refused in cc
-
 -- nor what is compared
 compared_words-Refused
     : (handles limit : ℕ) (words : Result (List Letter × List Letter) Fault) (a : Answer)
@@ -605,54 +414,6 @@ compared_words-Refused handles limit (Err fault) a is refused =
     let other = status-of _ a Refused is refused in cc
 compared_words-Refused handles limit (Ok (u, v)) a is refused =
     ended-Refused _ handles limit (run_after (quotient u v) handles limit handles).progress a is refused
-
--- nor a term file
-file_refused-Refused : (e : DefsErr) → (file_refused e).status ≡ Refused → ⊥
-file_refused-Refused (refusals.Lines k) refused = cc
-file_refused-Refused (refusals.Form k place) refused = cc
-file_refused-Refused (refusals.TooDeep k height) refused = cc
-file_refused-Refused (refusals.TooMany k products) refused = cc
-file_refused-Refused (refusals.Twice k place) refused = cc
-file_refused-Refused (refusals.Unknown k place) refused = cc
-file_refused-Refused refusals.Height refused = cc
-file_refused-Refused refusals.Nodes refused = cc
-file_refused-Refused refusals.Memory refused = cc
-
--- nor terms that are compared
-AreCompared-Refused
-    : (handles limit : ℕ) (input : List ℕ) (a : Answer)
-    → AreCompared handles limit input a
-    → a.status ≡ Refused
-    → ⊥
-unfolding run_answer
-AreCompared-Refused handles limit input a (terms_refused e file is) refused =
-    file_refused-Refused e (ap (λ (b : Answer). b.status) is ∙ refused)
-AreCompared-Refused handles limit input a (terms_read made first second file is) refused =
-    let t : Term = term_at made first in
-    let u : Term = term_at made second in
-    cond_both (ltb limit (braid_length t + braid_length u)) _ _ (λ (o : Option Answer). o ≡ Some a → ⊥)
-    (λ long met. let other = status-of _ a Refused met refused in cc)
-    (λ short. cond_both (ltb MAX_INDEX (max (height t) (height u))) _ _ (λ (o : Option Answer). o ≡ Some a → ⊥)
-    (λ high met. let other = status-of _ a Refused met refused in cc)
-    (λ low met. ended-Refused _ handles limit (run_after (quotient (braid t) (braid u)) handles limit handles).progress a met refused))
-    is
-
--- nor a term that is evaluated
-IsEvaluated-Refused
-    : (limit : ℕ) (input : List ℕ) (a : Answer)
-    → IsEvaluated limit input a
-    → a.status ≡ Refused
-    → ⊥
-IsEvaluated-Refused limit input a (eval_refused e file is) refused =
-    file_refused-Refused e (ap (λ (b : Answer). b.status) is ∙ refused)
-IsEvaluated-Refused limit input a (eval_read made first file is) refused =
-    let t : Term = term_at made first in
-    cond_both (ltb limit (braid_length t)) _ _ (λ (b : Answer). b ≡ a → ⊥)
-    (λ long met. let other : Limit ≡ Refused = ap (λ (b : Answer). b.status) met ∙ refused in cc)
-    (λ short. cond_both (ltb MAX_INDEX (height t)) _ _ (λ (b : Answer). b ≡ a → ⊥)
-    (λ high met. let other : Limit ≡ Refused = ap (λ (b : Answer). b.status) met ∙ refused in cc)
-    (λ low met. done-Refused _ a met refl refused))
-    is
 
 -- nor an image
 acted_word-Refused
@@ -714,7 +475,15 @@ Refused-AnswersShort (Same strands) input a is refused =
     absurd (IsSameOf-Refused strands (two_words strands input) a is refused)
 Refused-AnswersShort (Act strands index limit) input a is refused =
     absurd (acted_word-Refused index limit (one_word strands input) a is refused)
-Refused-AnswersShort (Eval limit) input a is refused = absurd (IsEvaluated-Refused limit input a is refused)
+Refused-AnswersShort (Eval limit) input a is refused =
+    absurd (IsOnTerm-Refused (λ made t. evaluated limit t) input a (λ made t. evaluated-Refused limit t a) is refused)
+Refused-AnswersShort (Value exponent) input a is refused =
+    absurd (IsOnTerm-Refused (λ made t. valued exponent t) input a (λ made t is refused. done-Refused _ a is refl refused) is refused)
+Refused-AnswersShort (Expand address) input a is refused =
+    absurd (IsOnTerm-Refused (expanded_at (length (lines_of input)) address) input a
+    (λ made t. expansion_answer-Refused _ _ _ a) is refused)
+Refused-AnswersShort Derive input a is refused =
+    absurd (IsOnTerm-Refused derived_in input a (λ made t. listed-Refused _ _ a) is refused)
 Refused-AnswersShort (Laver exponent) input a is refused = absurd (done-Refused _ a is refl refused)
 Refused-AnswersShort (Row exponent row) input a is refused = absurd (done-Refused _ a is refl refused)
 Refused-AnswersShort Session input a is refused = absurd (conversed-Refused input a is refused)

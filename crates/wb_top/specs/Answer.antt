@@ -3,7 +3,7 @@
 --
 --   Answer               a status and a text
 --   usage                the answer to words that are no command
---   bad_input fault      the answer to an input that isn't of the command's form
+--   bad_input fault      the answer to an input that isn't of the command's form, or has no part at an address
 --   limit_met name n     the answer where a limit was met
 --   Told a s old new     with status s a sink was told the answer a
 --   IsTold Is s old new  with status s a sink was told an answer of which `Is` holds
@@ -29,7 +29,7 @@ answer status text = record { status = status; text = text }
 abbrev pub usage : Answer
 usage = answer Words (line (codes "usage: braid_bench COMMAND NUMBERS"))
 
--- Input that isn't of the command's form, with its first fault.
+-- Input that isn't of the command's form, with its first fault, or that has nothing to expand at an address.
 abbrev pub bad_input : Fault → Answer
 bad_input fault = answer Input (fault_text fault)
 

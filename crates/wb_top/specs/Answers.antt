@@ -17,7 +17,7 @@
 --
 -- No words and no input have two answers (`law_one_answer`).
 use Rattle.std.specs.Prelude.{◌≡◌, ℕ, ◌+◌, ◌^◌, ◌<◌, ◌≤◌, ◌&&◌, not, Bool, true, false, nat_lt, if◌then◌else◌, List, [], ◌∷◌, ◌++◌, length, codes, decimal, Option, Some, None, Result, Ok, Err}
-use Rattle.wb_base.specs.Lines.{line}
+use Rattle.wb_base.specs.Lines.{lines_of, line}
 use Rattle.wb_base.specs.declared.status.Status.TheVariants.{Done, Refused}
 use Rattle.braid_word.specs.Words.{Letter}
 use Rattle.braid_word.specs.Equivalence.{EquivalentOn}
@@ -30,7 +30,7 @@ use Rattle.artin_laws.specs.Action.{act}
 use Rattle.wb_top.specs.declared.TheConstants.{MAX_INPUT}
 use Rattle.trace_format.specs.declared.verdict.Verdict.{Verdict}
 use Rattle.wb_top.specs.declared.command.Command.{Command}
-use Rattle.wb_top.specs.declared.command.Command.TheVariants.{Compare, Terms, Check, Normal, Same, Act, Eval, Laver, Row, Session, Bench}
+use Rattle.wb_top.specs.declared.command.Command.TheVariants.{Compare, Terms, Check, Normal, Same, Act, Eval, Value, Expand, Derive, Laver, Row, Session, Bench}
 use Rattle.wb_top.specs.declared.input.Fault.{Fault}
 use Rattle.laver_table.specs.Product.{product_rows}
 use Rattle.laver_table.specs.Table.{row_of}
@@ -47,7 +47,8 @@ use Rattle.wb_top.specs.Bench.{none_counted, tallied, tally_text}
 use Rattle.wb_top.specs.Commands.{command_of, reads_first}
 use Rattle.wb_top.specs.Answer.{Answer, answer, usage, bad_input, limit_met}
 use Rattle.wb_top.specs.Reductions.{compared}
-use Rattle.wb_top.specs.TermAnswers.{IsEvaluated, AreCompared}
+use Rattle.wb_top.specs.TermAnswers.{IsOnTerm, evaluated, valued, AreCompared}
+use Rattle.wb_top.specs.ExpansionAnswers.{expanded_at, derived_in}
 
 -- ---- compare ----
 
@@ -163,7 +164,10 @@ AnswersShort Check input a = checked (checked_of input) ≡ a
 AnswersShort (Normal strands) input a = IsNormalOf strands (one_word strands input) a
 AnswersShort (Same strands) input a = IsSameOf strands (two_words strands input) a
 AnswersShort (Act strands index limit) input a = acted_word index limit (one_word strands input) ≡ a
-AnswersShort (Eval limit) input a = IsEvaluated limit input a
+AnswersShort (Eval limit) input a = IsOnTerm (λ made t. evaluated limit t) input a
+AnswersShort (Value exponent) input a = IsOnTerm (λ made t. valued exponent t) input a
+AnswersShort (Expand address) input a = IsOnTerm (expanded_at (length (lines_of input)) address) input a
+AnswersShort Derive input a = IsOnTerm derived_in input a
 AnswersShort (Laver exponent) input a = whole_table exponent ≡ a
 AnswersShort (Row exponent row) input a = table_row exponent row ≡ a
 AnswersShort Session input a = conversed input ≡ a

@@ -1,21 +1,25 @@
 -- The command that the words of a command line are.
 --
 --   number_of low high word   the number of a command word, if it is within these bounds
+--   address_of word           the address that a command word is, if it is one
 --   command_of words          the command, if the words are one
 --   reads_input command       whether it has an input
 --   reads_first command       whether that is read to its end before anything is answered
 --   IsBounded command         its numbers are within their bounds
-use Rattle.std.specs.Prelude.{ℕ, ◌-◌, ◌^◌, ◌≤◌, ◌==◌, ◌&&◌, not, nat_lt, Bool, true, false, if◌then◌else◌, List, [], ◌∷◌, length, codes, Option, Some, None}
+use Rattle.std.specs.Prelude.{ℕ, ◌-◌, ◌^◌, ◌≤◌, ◌==◌, ◌&&◌, ◌||◌, not, nat_lt, Bool, true, false, if◌then◌else◌, List, [], ◌∷◌, length, codes, Option, Some, None}
+use Rattle.std.specs.List.{list_all}
 use Rattle.std.specs.Option.{option_map}
 use Rattle.std.specs.Str.{bytes_eq}
 use Rattle.wb_base.specs.Numbers.{number_at}
 use Rattle.handle_reduce.specs.declared.TheConstants.{MAX_BOUND}
 use Rattle.laver_table.specs.declared.TheConstants.{MAX_EXPONENT}
+use Rattle.term_expand.specs.Expansions.{IsAddress}
+use Rattle.term_expand.specs.declared.TheConstants.{MAX_ADDRESS}
 use Rattle.wb_top.specs.declared.TheConstants.{MAX_STRANDS, MAX_IMAGE, MAX_PRINTED, MAX_SIZE, MAX_COUNT}
 use Rattle.wb_top.specs.Benching.{IsBoundedPairs}
 use Rattle.wb_top.specs.declared.bench.Pairs.{Pairs}
 use Rattle.wb_top.specs.declared.command.Command.{Command}
-use Rattle.wb_top.specs.declared.command.Command.TheVariants.{Compare, Terms, Check, Normal, Same, Act, Eval, Laver, Row, Session, Bench}
+use Rattle.wb_top.specs.declared.command.Command.TheVariants.{Compare, Terms, Check, Normal, Same, Act, Eval, Value, Expand, Derive, Laver, Row, Session, Bench}
 
 -- A number that is the whole word, and within these bounds.
 abbrev pub whole_number : ℕ → ℕ → ℕ → Option (ℕ × ℕ) → Option ℕ
@@ -32,12 +36,13 @@ abbrev pub one_number : ℕ → ℕ → List (List ℕ) → Option ℕ
 one_number low high (word ∷ []) = number_of low high word
 one_number low high other = None
 
--- Its two numbers, both within these bounds.
+-- Both of two numbers, where there are both.
 abbrev pub both : Option ℕ → Option ℕ → Option (ℕ × ℕ)
 both (Some first) (Some second) = Some (first, second)
 both (Some first) None = None
 both None second = None
 
+-- The two numbers of a command, both within these bounds.
 abbrev pub two_numbers : ℕ → ℕ → List (List ℕ) → Option (ℕ × ℕ)
 two_numbers low high (first ∷ (second ∷ [])) = both (number_of low high first) (number_of low high second)
 two_numbers low high other = None
@@ -79,6 +84,33 @@ act_of other = None
 -- `eval` with the most letters of a braid word.
 abbrev pub eval_of : List (List ℕ) → Option Command
 eval_of numbers = option_map (λ limit. Eval limit) (one_number 0 MAX_BOUND numbers)
+
+-- `value` with the exponent of a table's size.
+abbrev pub value_of_numbers : List (List ℕ) → Option Command
+value_of_numbers numbers = option_map (λ exponent. Value exponent) (one_number 0 MAX_EXPONENT numbers)
+
+-- Whether a byte is a side: `0` for the left one, `1` for the right one.
+abbrev pub is_side : ℕ → Bool
+is_side byte = (byte == 48) || (byte == 49)
+
+-- The address that some sides are: at most 1,000, the greatest height of a term.
+abbrev pub sides_of : List ℕ → Option (List ℕ)
+sides_of sides = if not (nat_lt MAX_ADDRESS (length sides)) && list_all is_side sides then Some sides else None
+
+-- The address that a command word is, behind a dot: of `.` it is that of the whole term.
+abbrev pub address_of : List ℕ → Option (List ℕ)
+address_of [] = None
+address_of (byte ∷ sides) = if byte == 46 then sides_of sides else None
+
+-- `expand` with an address.
+abbrev pub expand_of : List (List ℕ) → Option Command
+expand_of (word ∷ []) = option_map (λ address. Expand address) (address_of word)
+expand_of other = None
+
+-- `derive`, which has no numbers.
+abbrev pub derive_of : List (List ℕ) → Option Command
+derive_of [] = Some Derive
+derive_of (word ∷ rest) = None
 
 -- `laver` with the exponent of a table's size.
 abbrev pub laver_of : List (List ℕ) → Option Command
@@ -132,10 +164,13 @@ command_of (name ∷ numbers) =
     else (if bytes_eq name (codes "same") then same_of numbers
     else (if bytes_eq name (codes "act") then act_of numbers
     else (if bytes_eq name (codes "eval") then eval_of numbers
+    else (if bytes_eq name (codes "value") then value_of_numbers numbers
+    else (if bytes_eq name (codes "expand") then expand_of numbers
+    else (if bytes_eq name (codes "derive") then derive_of numbers
     else (if bytes_eq name (codes "laver") then laver_of numbers
     else (if bytes_eq name (codes "row") then row_of_numbers numbers
     else (if bytes_eq name (codes "session") then session_of numbers
-    else (if bytes_eq name (codes "bench") then bench_of numbers else None))))))))))
+    else (if bytes_eq name (codes "bench") then bench_of numbers else None)))))))))))))
 
 -- A command that has no input reads nothing.
 abbrev pub reads_input : Command → Bool
@@ -146,6 +181,9 @@ reads_input (Normal strands) = true
 reads_input (Same strands) = true
 reads_input (Act strands index limit) = true
 reads_input (Eval limit) = true
+reads_input (Value exponent) = true
+reads_input (Expand address) = true
+reads_input Derive = true
 reads_input (Laver exponent) = false
 reads_input (Row exponent row) = false
 reads_input Session = true
@@ -161,6 +199,9 @@ reads_first (Normal strands) = true
 reads_first (Same strands) = true
 reads_first (Act strands index limit) = true
 reads_first (Eval limit) = true
+reads_first (Value exponent) = true
+reads_first (Expand address) = true
+reads_first Derive = true
 reads_first (Laver exponent) = false
 reads_first (Row exponent row) = false
 reads_first Session = false
@@ -176,6 +217,9 @@ IsBounded (Same strands) = (2 ≤ strands) × (strands ≤ MAX_STRANDS)
 IsBounded (Act strands index limit) =
     (strands ≤ MAX_STRANDS) × (1 ≤ index) × (index ≤ strands) × (1 ≤ limit) × (limit ≤ MAX_IMAGE)
 IsBounded (Eval limit) = limit ≤ MAX_BOUND
+IsBounded (Value exponent) = exponent ≤ MAX_EXPONENT
+IsBounded (Expand address) = IsAddress address
+IsBounded Derive = Unit {0}
 IsBounded (Laver exponent) = exponent ≤ MAX_PRINTED
 IsBounded (Row exponent row) = (exponent ≤ MAX_EXPONENT) × (1 ≤ row) × (row ≤ 2 ^ exponent)
 IsBounded Session = Unit {0}

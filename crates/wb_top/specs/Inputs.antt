@@ -16,7 +16,7 @@ use Rattle.braid_word.specs.Notation.{word_of}
 use Rattle.braid_word.specs.declared.reader.WordErr.{WordErr}
 use Rattle.braid_word.specs.declared.reader.WordErr.TheVariants as word_errors
 use Rattle.wb_top.specs.declared.input.Fault.{Fault}
-use Rattle.wb_top.specs.declared.input.Fault.TheVariants.{Lines, Letters, Index, Long, Strands, Term, Deep, Many, Twice, Unknown}
+use Rattle.wb_top.specs.declared.input.Fault.TheVariants.{Lines, Letters, Index, Long, Strands, Term, Deep, Many, Twice, Unknown, Address, Expand}
 
 -- ---- One line ----
 
@@ -87,8 +87,12 @@ two_words strands input = two_words_of strands (lines_of input)
 abbrev pub numbered_fault : ℕ → List ℕ → ℕ → List ℕ
 numbered_fault k name number = line (((codes "input " ++ decimal k) ++ name) ++ decimal number)
 
+-- The same without a number: `input 2 lines`.
+abbrev pub bare_fault : ℕ → List ℕ → List ℕ
+bare_fault k name = line ((codes "input " ++ decimal k) ++ name)
+
 abbrev pub fault_text : Fault → List ℕ
-fault_text (Lines k) = line ((codes "input " ++ decimal k) ++ codes " lines")
+fault_text (Lines k) = bare_fault k (codes " lines")
 fault_text (Letters k place) = numbered_fault k (codes " letter ") place
 fault_text (Index k place) = numbered_fault k (codes " index ") place
 fault_text (Long k count) = numbered_fault k (codes " long ") count
@@ -98,3 +102,5 @@ fault_text (Deep k height) = numbered_fault k (codes " deep ") height
 fault_text (Many k products) = numbered_fault k (codes " many ") products
 fault_text (Twice k place) = numbered_fault k (codes " twice ") place
 fault_text (Unknown k place) = numbered_fault k (codes " unknown ") place
+fault_text (Address k) = bare_fault k (codes " address")
+fault_text (Expand k) = bare_fault k (codes " expand")

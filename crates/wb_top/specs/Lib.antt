@@ -6,6 +6,7 @@ pub mod Reading
 pub mod Answer
 pub mod Reductions
 pub mod TermAnswers
+pub mod ExpansionAnswers
 pub mod Answers
 pub mod Outcomes
 pub mod Promises

@@ -1,18 +1,17 @@
 -- The answer that an outcome is written as.
-use Rattle.std.specs.Prelude.{ℕ, Bool, true, false, List, codes, map}
+use Rattle.std.specs.Prelude.{ℕ, Bool, true, false, List, codes, decimal, map}
 use Rattle.wb_base.specs.Lines.{line}
 use Rattle.wb_base.specs.declared.status.Status.TheVariants.{Done}
 use Rattle.wb_base.specs.declared.status.Status.TheVariants as statuses
 use Rattle.braid_word.specs.Notation.{word_text}
-use Rattle.ld_term.specs.declared.TheConstants.{MAX_HEIGHT}
-use Rattle.term_graph.specs.declared.TheConstants.{MAX_NODES}
+use Rattle.term_graph.specs.Listings.{listing_text}
 use Rattle.free_word.specs.FreeText.{free_text}
 use Rattle.wb_top.specs.declared.TheConstants.{MAX_INPUT}
 use Rattle.wb_top.specs.declared.outcome.Outcome.{Outcome}
-use Rattle.wb_top.specs.declared.outcome.Outcome.TheVariants.{Usage, InputTooLong, BadInput, HandlesMet, LengthMet, ImageMet, HeightMet, NodesMet, IndexMet, LengthNeeded, Compared, ComparedTerms, Accepted, Refused, Normalised, Decided, Acted, Evaluated, WholeTable, TableRow, Tallied}
+use Rattle.wb_top.specs.declared.outcome.Outcome.TheVariants.{Usage, InputTooLong, BadInput, HandlesMet, LengthMet, ImageMet, HeightMet, NodesMet, IndexMet, LengthNeeded, Compared, ComparedTerms, Accepted, Refused, Normalised, Decided, Acted, Evaluated, Valued, Listed, WholeTable, TableRow, Tallied}
 use Rattle.garside_form.specs.NormalText.{normal_text}
 use Rattle.laver_table.specs.TableText.{row_line, table_text}
-use Rattle.trace_format.specs.TraceText.{trace_text, term_trace_text, handle_step}
+use Rattle.trace_format.specs.TraceText.{words, trace_text, term_trace_text, handle_step}
 use Rattle.handle_reduce.specs.Runs.{RunState}
 use Rattle.trace_format.specs.declared.verdict.Verdict.{Verdict}
 use Rattle.wb_top.specs.declared.compare.Ended.{Ended}
@@ -20,7 +19,7 @@ use Rattle.wb_top.specs.declared.compare.Ended.TheVariants as endings
 use Rattle.wb_top.specs.Bench.{tally_text}
 use Rattle.wb_top.specs.Answer.{Answer, answer, usage, bad_input, limit_met}
 use Rattle.wb_top.specs.Reductions.{trace_of}
-use Rattle.wb_top.specs.TermAnswers.{length_needed, index_met}
+use Rattle.wb_top.specs.TermAnswers.{height_met, nodes_met, length_needed, index_met}
 use Rattle.wb_top.specs.Answers.{accepted_text, refused_text, same_text, different_text}
 
 -- What `same` writes.
@@ -35,11 +34,11 @@ answer_of (BadInput fault) = bad_input fault
 answer_of (HandlesMet handles) = limit_met (codes "handles ") handles
 answer_of (LengthMet limit) = limit_met (codes "length ") limit
 answer_of (ImageMet limit) = limit_met (codes "image ") limit
-answer_of HeightMet = limit_met (codes "height ") MAX_HEIGHT
-answer_of NodesMet = limit_met (codes "nodes ") MAX_NODES
+answer_of HeightMet = height_met
+answer_of NodesMet = nodes_met
 answer_of IndexMet = index_met
 answer_of (LengthNeeded limit count) = length_needed limit count
-answer_of (Compared left right verdict reduction) = answer Done (trace_text (trace_of left right reduction.run verdict))
+answer_of (Compared left right verdict reduction) = answer Done (trace_text (trace_of (words left right) reduction.run verdict))
 answer_of (ComparedTerms left right verdict reduction) = answer Done (term_trace_text (record {
   left = left.items;
   right = right.items;
@@ -53,6 +52,8 @@ answer_of (Normalised form) = answer Done (normal_text form)
 answer_of (Decided same) = decided same
 answer_of (Acted image) = answer Done (line (free_text image))
 answer_of (Evaluated word) = answer Done (line (word_text word))
+answer_of (Valued value) = answer Done (line (decimal value))
+answer_of (Listed term) = answer Done (listing_text term)
 answer_of (WholeTable table) = answer Done (table_text table)
 answer_of (TableRow row) = answer Done (row_line row)
 answer_of (Tallied count tally) = answer Done (tally_text count tally)

@@ -5,7 +5,7 @@
 --
 --   ended text H L p       the answer of a run that stands so, after H turns
 --   run_answer text H L u v   the answer of the run of the quotient of u and v, where `text` writes its trace
---   trace_of u v run d     the trace of the words u and v
+--   trace_of h run d       the trace of what is compared
 --   compared H L u v       the answer of `compare H L` on the words u and v
 use Rattle.std.specs.Prelude.{ℕ, List, codes, map, Option, Some, None}
 use Rattle.std.specs.Option.{option_map}
@@ -16,7 +16,7 @@ use Rattle.handle_reduce.specs.declared.progress.Progress.{Progress}
 use Rattle.handle_reduce.specs.declared.progress.Progress.TheVariants as progress
 use Rattle.trace_format.specs.declared.verdict.Verdict.{Verdict}
 use Rattle.trace_format.specs.Verdicts.{verdict_of}
-use Rattle.trace_format.specs.TraceText.{Trace, trace_text, handle_step}
+use Rattle.trace_format.specs.TraceText.{Header, words, Trace, trace_text, handle_step}
 use Rattle.wb_top.specs.Answer.{Answer, answer, limit_met}
 
 -- The answer of a run that stands so after as many turns as it may reduce handles, where `text` writes its
@@ -34,11 +34,10 @@ unfoldable pub run_answer : (RunState → Verdict → List ℕ) → ℕ → ℕ 
 run_answer text handles limit u v =
     let run = run_after (quotient u v) handles limit handles in ended (text run) handles limit run.progress
 
--- The trace of two words, whose quotient has this run.
-abbrev pub trace_of : List Letter → List Letter → RunState → Verdict → Trace
-trace_of u v run verdict = record {
-  left = u;
-  right = v;
+-- The trace of what is compared, where the quotient has this run.
+abbrev pub trace_of : Header → RunState → Verdict → Trace
+trace_of header run verdict = record {
+  header = header;
   steps = map handle_step run.steps;
   verdict = verdict;
   witness = run.present;
@@ -46,4 +45,4 @@ trace_of u v run verdict = record {
 
 -- `compare H L` on two words.
 abbrev pub compared : ℕ → ℕ → List Letter → List Letter → Option Answer
-compared handles limit u v = run_answer (λ run verdict. trace_text (trace_of u v run verdict)) handles limit u v
+compared handles limit u v = run_answer (λ run verdict. trace_text (trace_of (words u v) run verdict)) handles limit u v

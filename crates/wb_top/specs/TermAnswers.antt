@@ -1,4 +1,4 @@
--- What `eval` and `terms` answer to a term file.
+-- What `eval`, `value` and `terms` answer to a term file.
 --
 -- A file that is refused is answered with its first fault, or with the limit that its graph meets. Else the
 -- lengths of the braid words come before their indices, and these before the run.
@@ -6,13 +6,15 @@
 -- operations, 1994.
 --
 --   file_refused error            the answer to a term file that is refused for this
+--   IsOnTerm of_term input a      a is the answer to a term file of one term, where `of_term made t` is that on
+--                                 its term t in the graph `made`
 --   evaluated L t                 the answer of `eval L` on the term t
---   IsEvaluated L input a         a is the answer of `eval L`
+--   valued n t                    the answer of `value n` on the term t
 --   term_trace_of t u run v       the trace of two terms
 --   braids_compared H L t u       the answer of the run of the quotient of their braid words
 --   terms_compared H L t u        the answer of `terms H L` on the terms t and u
 --   AreCompared H L input a       a is the answer of `terms H L`
-use Rattle.std.specs.Prelude.{◌≡◌, ℕ, ◌+◌, nat_lt, max, map, if◌then◌else◌, List, ◌++◌, codes, decimal, Option, Some, None}
+use Rattle.std.specs.Prelude.{◌≡◌, ℕ, ◌+◌, ◌^◌, nat_lt, max, map, if◌then◌else◌, List, ◌++◌, codes, decimal, Option, Some, None}
 use Rattle.wb_base.specs.Lines.{lines_of, line}
 use Rattle.wb_base.specs.declared.status.Status.TheVariants.{Done, Limit}
 use Rattle.braid_word.specs.Notation.{word_text}
@@ -22,11 +24,13 @@ use Rattle.ld_term.specs.Terms.{Term, height}
 use Rattle.ld_term.specs.declared.TheConstants.{MAX_HEIGHT}
 use Rattle.term_graph.specs.TermLists.{term_at, braid_length, capped}
 use Rattle.term_graph.specs.TermFiles.{IsTermFile, IsFileRefusal}
-use Rattle.term_graph.specs.StrictTexts.{strict_text}
+use Rattle.ld_term.specs.StrictTexts.{strict_text}
 use Rattle.term_graph.specs.declared.TheConstants.{MAX_NODES}
 use Rattle.term_graph.specs.declared.file_error.DefsErr.{DefsErr}
 use Rattle.term_graph.specs.declared.file_error.DefsErr.TheVariants as refusals
 use Rattle.term_eval.specs.Braids.{braid}
+use Rattle.term_eval.specs.Values.{value_of}
+use Rattle.laver_table.specs.Product.{product_rows}
 use Rattle.trace_format.specs.declared.verdict.Verdict.{Verdict}
 use Rattle.trace_format.specs.TraceText.{TermTrace, term_trace_text, handle_step}
 use Rattle.wb_top.specs.declared.input.Fault.TheVariants as faults
@@ -34,6 +38,13 @@ use Rattle.wb_top.specs.Answer.{Answer, answer, bad_input, limit_met}
 use Rattle.wb_top.specs.Reductions.{run_answer}
 
 -- ---- Files that are refused ----
+
+-- A term would be too high, or the graph has as many products as it may have.
+abbrev pub height_met : Answer
+height_met = limit_met (codes "height ") MAX_HEIGHT
+
+abbrev pub nodes_met : Answer
+nodes_met = limit_met (codes "nodes ") MAX_NODES
 
 -- The answer to a term file that is refused for this. Want of memory has one here for completeness: a
 -- definition never answers it.
@@ -44,9 +55,18 @@ file_refused (refusals.TooDeep k height) = bad_input (faults.Deep k height)
 file_refused (refusals.TooMany k products) = bad_input (faults.Many k products)
 file_refused (refusals.Twice k place) = bad_input (faults.Twice k place)
 file_refused (refusals.Unknown k place) = bad_input (faults.Unknown k place)
-file_refused refusals.Height = limit_met (codes "height ") MAX_HEIGHT
-file_refused refusals.Nodes = limit_met (codes "nodes ") MAX_NODES
+file_refused refusals.Height = height_met
+file_refused refusals.Nodes = nodes_met
 file_refused refusals.Memory = bad_input (faults.Lines 0)
+
+-- ---- Files of one term ----
+
+-- The answer to a file of one term: that of its refusal, or that on its term.
+pub data IsOnTerm (of_term : List Term → Term → Answer) (input : List ℕ) (a : Answer) : Type 0 where
+  on_refusal : (error : DefsErr) → IsFileRefusal 1 (lines_of input) error → file_refused error ≡ a
+      → IsOnTerm of_term input a
+  on_term : (made : List Term) (first : ℕ) → IsTermFile 1 (lines_of input) made first None
+      → of_term made (term_at made first) ≡ a → IsOnTerm of_term input a
 
 -- ---- eval ----
 
@@ -66,12 +86,11 @@ evaluated limit t =
     if nat_lt limit (braid_length t) then length_needed limit (capped (braid_length t))
     else (if nat_lt MAX_INDEX (height t) then index_met else answer Done (line (word_text (braid t))))
 
--- The answer of `eval L`.
-pub data IsEvaluated (limit : ℕ) (input : List ℕ) (a : Answer) : Type 0 where
-  eval_refused : (error : DefsErr) → IsFileRefusal 1 (lines_of input) error → file_refused error ≡ a
-      → IsEvaluated limit input a
-  eval_read : (made : List Term) (first : ℕ) → IsTermFile 1 (lines_of input) made first None
-      → evaluated limit (term_at made first) ≡ a → IsEvaluated limit input a
+-- ---- value ----
+
+-- The value of a term in the Laver table of size 2^n.
+abbrev pub valued : ℕ → Term → Answer
+valued exponent t = answer Done (line (decimal (value_of (product_rows (2 ^ exponent)) t)))
 
 -- ---- terms ----
 

@@ -1,16 +1,62 @@
 ghost use Rattle.std.specs.Prelude.{◌≡◌, ◌-◌, ◌^◌, ◌≤◌, map, string_bytes, IfSome};
-ghost use Rattle.wb_top.specs.Commands.{number_of, one_number, two_numbers, compare_of, terms_of, check_of, normal_of, same_of, act_of, eval_of, laver_of, row_of_numbers, session_of, pairs_by, bench_of, command_of, reads_first, IsBounded};
+ghost use Rattle.std.specs.Option.{option_map};
+ghost use Rattle.wb_top.specs.declared.command.Command.TheVariants.{Act, Row, Bench};
+ghost use Rattle.wb_top.specs.Commands.{number_of, one_number, two_numbers, compare_of, terms_of, check_of, normal_of, same_of, act_of, eval_of, value_of_numbers, address_of, expand_of, derive_of, laver_of, row_of_numbers, session_of, pairs_by, bench_of, command_of, reads_first, IsBounded};
+ghost use Rattle.term_expand.specs.Expansions.{IsAddress};
 ghost use Rattle.wb_top.specs.Benching.{IsBoundedPairs};
 
 use crate::bench::Pairs;
 use crate::{MAX_COUNT, MAX_IMAGE, MAX_PRINTED, MAX_SIZE, MAX_STRANDS};
 use handle_reduce::MAX_BOUND;
 use laver_table::MAX_EXPONENT;
+use std::marker::Model;
+use term_expand::is_address;
 use wb_base::read_number;
 
+/// The address of a part of a term.
+#[derive(Debug, Drop)]
+pub struct Address<'a> {
+    sides: &'a [u8],
+}
+
+impl<'a> Model for Address<'a> {
+    ghost use Rattle.std.specs.Prelude.{List, ℕ};
+    ghost use Rattle.term_expand.specs.Expansions.{IsAddress};
+
+    ghost Value = { List ℕ };
+
+    ghost view = { λ s. s.sides.now };
+
+    ghost invariant = { λ s. IsAddress s.sides.now };
+}
+
+impl<'a> Address<'a> {
+    // The address that a command word is.
+    fn read(word: &'a [u8]) -> Option<Address<'a>>
+        ensures { result ≡ address_of word.now }
+    {
+        let (dot, sides) = word.split_first()?;
+        if *dot != b'.' {
+            return None;
+        }
+        if !is_address(sides) {
+            return None;
+        }
+        Some(Address { sides })
+    }
+
+    /// Its sides from the whole term on, `0` for the left part and `1` for the right one.
+    pub(crate) fn sides(&self) -> &'a [u8]
+        ensures sides { result.now ≡ self.now }
+        ensures address { IsAddress result.now }
+    {
+        self.sides
+    }
+}
+
 /// A command of the program.
-#[derive(Clone, Copy, Debug, PartialEq, Eq)]
-pub enum Command {
+#[derive(Debug, Drop)]
+pub enum Command<'a> {
     /// Compares two words by at most so many handle reductions, over words of at most so many letters.
     Compare {
         handles: u32,
@@ -42,6 +88,16 @@ pub enum Command {
     Eval {
         limit: u32,
     },
+    /// Gives the value of a term in the Laver table of size 2 to this exponent.
+    Value {
+        exponent: u32,
+    },
+    /// Gives the listing of a term that is expanded at this address.
+    Expand {
+        address: Address<'a>,
+    },
+    /// Gives the listing of a derived term.
+    Derive,
     /// Gives the Laver table of size 2 to this exponent.
     Laver {
         exponent: u32,
@@ -61,7 +117,7 @@ pub enum Command {
     },
 }
 
-impl Command {
+impl<'a> Command<'a> {
     /// Whether the command has an input which is read to its end before anything is answered.
     pub fn reads_first(&self) -> bool
         ensures { result ≡ reads_first self.now }
@@ -73,7 +129,10 @@ impl Command {
             | Command::Normal { .. }
             | Command::Same { .. }
             | Command::Act { .. }
-            | Command::Eval { .. } => true,
+            | Command::Eval { .. }
+            | Command::Value { .. }
+            | Command::Expand { .. }
+            | Command::Derive => true,
             Command::Laver { .. }
             | Command::Row { .. }
             | Command::Session
@@ -123,7 +182,7 @@ fn read_two(numbers: &[String], low: u32, high: u32) -> Option<(u32, u32)>
 }
 
 // The numbers of `compare`.
-fn read_compare(numbers: &[String]) -> Option<Command>
+fn read_compare(numbers: &[String]) -> Option<Command<'_>>
     ensures command { result ≡ compare_of (map string_bytes numbers.now) }
     ensures bounded { IfSome result IsBounded }
 {
@@ -132,7 +191,7 @@ fn read_compare(numbers: &[String]) -> Option<Command>
 }
 
 // The numbers of `terms`.
-fn read_terms(numbers: &[String]) -> Option<Command>
+fn read_terms(numbers: &[String]) -> Option<Command<'_>>
     ensures command { result ≡ terms_of (map string_bytes numbers.now) }
     ensures bounded { IfSome result IsBounded }
 {
@@ -141,7 +200,7 @@ fn read_terms(numbers: &[String]) -> Option<Command>
 }
 
 // The numbers of `check`, which are none.
-fn read_check(numbers: &[String]) -> Option<Command>
+fn read_check(numbers: &[String]) -> Option<Command<'_>>
     ensures command { result ≡ check_of (map string_bytes numbers.now) }
     ensures bounded { IfSome result IsBounded }
 {
@@ -153,7 +212,7 @@ fn read_check(numbers: &[String]) -> Option<Command>
 }
 
 // The number of `normal`.
-fn read_normal(numbers: &[String]) -> Option<Command>
+fn read_normal(numbers: &[String]) -> Option<Command<'_>>
     ensures command { result ≡ normal_of (map string_bytes numbers.now) }
     ensures bounded { IfSome result IsBounded }
 {
@@ -162,7 +221,7 @@ fn read_normal(numbers: &[String]) -> Option<Command>
 }
 
 // The number of `same`.
-fn read_same(numbers: &[String]) -> Option<Command>
+fn read_same(numbers: &[String]) -> Option<Command<'_>>
     ensures command { result ≡ same_of (map string_bytes numbers.now) }
     ensures bounded { IfSome result IsBounded }
 {
@@ -170,10 +229,10 @@ fn read_same(numbers: &[String]) -> Option<Command>
     Some(Command::Same { strands })
 }
 
-// The numbers of `act`.
-fn read_act(numbers: &[String]) -> Option<Command>
-    ensures command { result ≡ act_of (map string_bytes numbers.now) }
-    ensures bounded { IfSome result IsBounded }
+// The numbers of `act`: of strands, of a generator, and the most generators of an image.
+fn read_act_numbers(numbers: &[String]) -> Option<(u32, u32, u32)>
+    ensures numbers { act_of (map string_bytes numbers.now) ≡ option_map (λ n. Act n.0 n.1 n.2) result }
+    ensures bounded { IfSome result (λ n. IsBounded (Act n.0 n.1 n.2)) }
 {
     let [strands, index, limit] = numbers else {
         return None;
@@ -181,6 +240,14 @@ fn read_act(numbers: &[String]) -> Option<Command>
     let strands = read_within(strands.as_bytes(), 2, MAX_STRANDS)?;
     let index = read_within(index.as_bytes(), 1, strands)?;
     let limit = read_within(limit.as_bytes(), 1, MAX_IMAGE)?;
+    Some((strands, index, limit))
+}
+
+fn read_act(numbers: &[String]) -> Option<Command<'_>>
+    ensures command { result ≡ act_of (map string_bytes numbers.now) }
+    ensures bounded { IfSome result IsBounded }
+{
+    let (strands, index, limit) = read_act_numbers(numbers)?;
     Some(Command::Act {
         strands,
         index,
@@ -189,7 +256,7 @@ fn read_act(numbers: &[String]) -> Option<Command>
 }
 
 // The number of `eval`.
-fn read_eval(numbers: &[String]) -> Option<Command>
+fn read_eval(numbers: &[String]) -> Option<Command<'_>>
     ensures command { result ≡ eval_of (map string_bytes numbers.now) }
     ensures bounded { IfSome result IsBounded }
 {
@@ -197,8 +264,41 @@ fn read_eval(numbers: &[String]) -> Option<Command>
     Some(Command::Eval { limit })
 }
 
+// The number of `value`.
+fn read_value(numbers: &[String]) -> Option<Command<'_>>
+    ensures command { result ≡ value_of_numbers (map string_bytes numbers.now) }
+    ensures bounded { IfSome result IsBounded }
+{
+    let exponent = read_one(numbers, 0, MAX_EXPONENT)?;
+    Some(Command::Value { exponent })
+}
+
+// The address of `expand`.
+fn read_expand(numbers: &[String]) -> Option<Command<'_>>
+    ensures command { result ≡ expand_of (map string_bytes numbers.now) }
+    ensures bounded { IfSome result IsBounded }
+{
+    let [word] = numbers else {
+        return None;
+    };
+    let address = Address::read(word.as_bytes())?;
+    Some(Command::Expand { address })
+}
+
+// The numbers of `derive`, which are none.
+fn read_derive(numbers: &[String]) -> Option<Command<'_>>
+    ensures command { result ≡ derive_of (map string_bytes numbers.now) }
+    ensures bounded { IfSome result IsBounded }
+{
+    if numbers.is_empty() {
+        Some(Command::Derive)
+    } else {
+        None
+    }
+}
+
 // The number of `laver`.
-fn read_laver(numbers: &[String]) -> Option<Command>
+fn read_laver(numbers: &[String]) -> Option<Command<'_>>
     ensures command { result ≡ laver_of (map string_bytes numbers.now) }
     ensures bounded { IfSome result IsBounded }
 {
@@ -206,21 +306,29 @@ fn read_laver(numbers: &[String]) -> Option<Command>
     Some(Command::Laver { exponent })
 }
 
-// The numbers of `row`.
-fn read_row(numbers: &[String]) -> Option<Command>
-    ensures command { result ≡ row_of_numbers (map string_bytes numbers.now) }
-    ensures bounded { IfSome result IsBounded }
+// The numbers of `row`: the exponent of a table's size, and a row.
+fn read_row_numbers(numbers: &[String]) -> Option<(u32, u32)>
+    ensures numbers { row_of_numbers (map string_bytes numbers.now) ≡ option_map (λ n. Row n.0 n.1) result }
+    ensures bounded { IfSome result (λ n. IsBounded (Row n.0 n.1)) }
 {
     let [exponent, row] = numbers else {
         return None;
     };
     let exponent = read_within(exponent.as_bytes(), 0, MAX_EXPONENT)?;
     let row = read_within(row.as_bytes(), 1, 1 << exponent)?;
+    Some((exponent, row))
+}
+
+fn read_row(numbers: &[String]) -> Option<Command<'_>>
+    ensures command { result ≡ row_of_numbers (map string_bytes numbers.now) }
+    ensures bounded { IfSome result IsBounded }
+{
+    let (exponent, row) = read_row_numbers(numbers)?;
     Some(Command::Row { exponent, row })
 }
 
 // The numbers of `session`, which are none.
-fn read_session(numbers: &[String]) -> Option<Command>
+fn read_session(numbers: &[String]) -> Option<Command<'_>>
     ensures command { result ≡ session_of (map string_bytes numbers.now) }
     ensures bounded { IfSome result IsBounded }
 {
@@ -252,10 +360,10 @@ fn read_pairs(strands: &[u8], size: &[u8], handles: &[u8], limit: &[u8]) -> Opti
     })
 }
 
-// The numbers of `bench`.
-fn read_bench(numbers: &[String]) -> Option<Command>
-    ensures command { result ≡ bench_of (map string_bytes numbers.now) }
-    ensures bounded { IfSome result IsBounded }
+// The numbers of `bench`: those of its pairs, how many they are, and the first state.
+fn read_bench_numbers(numbers: &[String]) -> Option<(Pairs, u32, u64)>
+    ensures numbers { bench_of (map string_bytes numbers.now) ≡ option_map (λ n. Bench n.0 n.1 n.2) result }
+    ensures bounded { IfSome result (λ n. IsBounded (Bench n.0 n.1 n.2)) }
 {
     let [strands, size, count, seed, handles, limit] = numbers else {
         return None;
@@ -268,11 +376,19 @@ fn read_bench(numbers: &[String]) -> Option<Command>
     )?;
     let count = read_within(count.as_bytes(), 1, MAX_COUNT)?;
     let seed = read_seed(seed.as_bytes())?;
+    Some((pairs, count, seed))
+}
+
+fn read_bench(numbers: &[String]) -> Option<Command<'_>>
+    ensures command { result ≡ bench_of (map string_bytes numbers.now) }
+    ensures bounded { IfSome result IsBounded }
+{
+    let (pairs, count, seed) = read_bench_numbers(numbers)?;
     Some(Command::Bench { pairs, count, seed })
 }
 
 /// The command that the words after the program's name are.
-pub fn read_command(words: &[String]) -> Option<Command>
+pub fn read_command(words: &[String]) -> Option<Command<'_>>
     ensures command { result ≡ command_of (map string_bytes words.now) }
     ensures bounded { IfSome result IsBounded }
 {
@@ -293,6 +409,12 @@ pub fn read_command(words: &[String]) -> Option<Command>
         read_act(numbers)
     } else if name.as_str() == "eval" {
         read_eval(numbers)
+    } else if name.as_str() == "value" {
+        read_value(numbers)
+    } else if name.as_str() == "expand" {
+        read_expand(numbers)
+    } else if name.as_str() == "derive" {
+        read_derive(numbers)
     } else if name.as_str() == "laver" {
         read_laver(numbers)
     } else if name.as_str() == "row" {

@@ -1,9 +1,8 @@
 ghost use Rattle.std.specs.Prelude.{◌≡◌};
 ghost use Rattle.std.specs.List.{position};
 ghost use Rattle.wb_base.specs.Streams.{HasCause, Puts};
-ghost use Rattle.wb_top.specs.Inputs.{fault_text, first_beyond, numbered_fault, one_word, two_words, word_on};
+ghost use Rattle.wb_top.specs.Inputs.{bare_fault, fault_text, first_beyond, numbered_fault, one_word, two_words, word_on};
 ghost use Rattle.wb_top.specs.Reading.{Reads, read_fault};
-ghost use Rattle.wb_top.specs.declared.input.Fault.TheVariants.{Lines};
 
 use braid_word::{Letter, Word, WordErr, read_word};
 use std::alloc::Global;
@@ -33,6 +32,10 @@ pub enum Fault {
     Twice(u64, u64),
     /// A name that no earlier line defines begins at this byte, and is the first such.
     Unknown(u64, u64),
+    /// The address leads below a leaf of the term of this line.
+    Address(u64),
+    /// The part at the address has nothing to expand.
+    Expand(u64),
 }
 
 impl Fault {
@@ -42,7 +45,7 @@ impl Fault {
         ensures cause { HasCause (K.faults sink.old) (K.faults sink.new) result }
     {
         match *self {
-            Fault::Lines(line) => put_bare(sink, line),
+            Fault::Lines(line) => put_bare(sink, line, b" lines"),
             Fault::Letters(line, place) => put_fault(sink, line, b" letter ", place),
             Fault::Index(line, place) => put_fault(sink, line, b" index ", place),
             Fault::Long(line, count) => put_fault(sink, line, b" long ", count),
@@ -52,17 +55,19 @@ impl Fault {
             Fault::Many(line, products) => put_fault(sink, line, b" many ", products),
             Fault::Twice(line, place) => put_fault(sink, line, b" twice ", place),
             Fault::Unknown(line, place) => put_fault(sink, line, b" unknown ", place),
+            Fault::Address(line) => put_bare(sink, line, b" address"),
+            Fault::Expand(line) => put_bare(sink, line, b" expand"),
         }
     }
 }
 
-// Gives the line of a fault without a number.
-fn put_bare<K: Sink>(sink: &mut K, line: u64) -> Result<(), Failed>
-    ensures took { Puts (K.taken sink.old) (K.taken sink.new) result (fault_text (Lines line)) }
+// Gives the line of a fault without a number, by its name.
+fn put_bare<K: Sink>(sink: &mut K, line: u64, name: &[u8]) -> Result<(), Failed>
+    ensures took { Puts (K.taken sink.old) (K.taken sink.new) result (bare_fault line name.now) }
     ensures cause { HasCause (K.faults sink.old) (K.faults sink.new) result }
 {
     put_numbered(sink, b"input ", line)?;
-    put_line(sink, b" lines")
+    put_line(sink, name)
 }
 
 // Gives the line of a fault by its name and its number.

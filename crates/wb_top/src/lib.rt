@@ -6,6 +6,7 @@ mod bench;
 mod checking;
 mod command;
 mod compare;
+mod expansion;
 mod input;
 mod laws;
 mod normal;
@@ -15,8 +16,9 @@ mod tables;
 mod terms;
 #[cfg(test)]
 mod tests;
+mod values;
 
-pub use command::{Command, read_command};
+pub use command::{Address, Command, read_command};
 pub use laws::law_one_answer;
 pub use program::run;
 

@@ -11,6 +11,7 @@ ghost use Rattle.wb_top.specs.Outcomes.{answer_of, decided};
 
 use crate::MAX_INPUT;
 use crate::bench::{Tally, put_tally};
+use crate::expansion::Listed;
 use crate::input::Fault;
 use crate::tables::{RowOf, put_whole};
 use braid_word::{Letter, MAX_INDEX, Word, put_word};
@@ -25,13 +26,13 @@ use trace_format::{Verdict, put_term_trace, put_trace};
 use wb_base::{Failed, Sink, Status, give_all, put_line, put_numbered, put_numbered_line};
 
 /// What a command has come to, before it is written.
-#[derive(Debug, Drop)]
+#[derive(Drop)]
 pub(crate) enum Outcome {
     /// The words are no command.
     Usage,
     /// The input has too many bytes.
     InputTooLong,
-    /// The input isn't of the command's form.
+    /// The input isn't of the command's form, or its term has nothing to expand at the address.
     BadInput(Fault),
     /// As many handles were reduced as may be.
     HandlesMet(u32),
@@ -41,7 +42,7 @@ pub(crate) enum Outcome {
     ImageMet(u32),
     /// A term is higher than may be.
     HeightMet,
-    /// A term file has more distinct products than may be.
+    /// A graph of terms has as many products as may be.
     NodesMet,
     /// A braid word has a greater index than may be.
     IndexMet,
@@ -76,6 +77,10 @@ pub(crate) enum Outcome {
     Acted(FreeWord),
     /// A term has this braid word.
     Evaluated(Word),
+    /// A term has this value in a Laver table.
+    Valued(u32),
+    /// A term is listed.
+    Listed(Listed),
     /// A Laver table was built.
     WholeTable(Table),
     /// A Laver table was built for one row.
@@ -180,6 +185,8 @@ impl Outcome {
             | Outcome::Decided(_)
             | Outcome::Acted(_)
             | Outcome::Evaluated(_)
+            | Outcome::Valued(_)
+            | Outcome::Listed(_)
             | Outcome::WholeTable(_)
             | Outcome::TableRow(_)
             | Outcome::Tallied { .. } => Status::Done,
@@ -215,6 +222,8 @@ impl Outcome {
             Outcome::Decided(same) => put_line(sink, decided_line(*same)),
             Outcome::Acted(image) => put_image(sink, image),
             Outcome::Evaluated(word) => put_braid(sink, word.letters()),
+            Outcome::Valued(value) => put_numbered_line(sink, b"", u64::from(*value)),
+            Outcome::Listed(term) => term.put(sink),
             Outcome::WholeTable(table) => put_whole(sink, table),
             Outcome::TableRow(row) => row.put(sink),
             Outcome::Tallied { count, tally } => put_tally(sink, *count, tally),

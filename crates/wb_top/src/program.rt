@@ -17,10 +17,12 @@ use crate::bench::bench;
 use crate::checking::check_input;
 use crate::command::{Command, read_command};
 use crate::compare::compare;
+use crate::expansion::{derive_input, expand_input};
 use crate::normal::{normal_of_input, same_of_input};
 use crate::outcome::Outcome;
 use crate::tables::{build_row, build_table};
 use crate::terms::{compare_terms, eval_input};
+use crate::values::value_of_input;
 use session_run::serve;
 use std::alloc::{AllocError, Global};
 use wb_base::{ReadErr, Sink, Source, Status, read_all};
@@ -43,41 +45,44 @@ impl From<AllocError> for Stop {
 }
 
 // Does a command on an input that isn't too long.
-fn perform_on(alloc: Global, command: Command, input: &[u8]) -> Result<Outcome, Stop>
-    requires bounded { IsBounded command }
-    requires once { command ≢ Session }
-    ensures outcome { IfOk result (λ outcome. AnswersShort command input.now (answer_of outcome)) }
+fn perform_on(alloc: Global, command: &Command<'_>, input: &[u8]) -> Result<Outcome, Stop>
+    requires bounded { IsBounded command.now }
+    requires once { command.now ≢ Session }
+    ensures outcome { IfOk result (λ outcome. AnswersShort command.now input.now (answer_of outcome)) }
     ensures known { IfOk result (λ outcome. (answer_of outcome).status ≢ Status.Words) }
     ensures stop { result ≢ Err Stop.ReadFault }
 {
     match command {
-        Command::Compare { handles, limit } => Ok(compare(alloc, handles, limit, input)?),
-        Command::Terms { handles, limit } => Ok(compare_terms(alloc, handles, limit, input)?),
+        Command::Compare { handles, limit } => Ok(compare(alloc, *handles, *limit, input)?),
+        Command::Terms { handles, limit } => Ok(compare_terms(alloc, *handles, *limit, input)?),
         Command::Check => Ok(check_input(alloc, input)?),
-        Command::Normal { strands } => Ok(normal_of_input(alloc, strands, input)?),
-        Command::Same { strands } => Ok(same_of_input(alloc, strands, input)?),
+        Command::Normal { strands } => Ok(normal_of_input(alloc, *strands, input)?),
+        Command::Same { strands } => Ok(same_of_input(alloc, *strands, input)?),
         Command::Act {
             strands,
             index,
             limit,
-        } => Ok(act_on_input(alloc, strands, index, limit, input)?),
-        Command::Eval { limit } => Ok(eval_input(alloc, limit, input)?),
-        Command::Laver { exponent } => Ok(build_table(alloc, exponent)?),
-        Command::Row { exponent, row } => Ok(build_row(alloc, exponent, row)?),
+        } => Ok(act_on_input(alloc, *strands, *index, *limit, input)?),
+        Command::Eval { limit } => Ok(eval_input(alloc, *limit, input)?),
+        Command::Value { exponent } => Ok(value_of_input(alloc, *exponent, input)?),
+        Command::Expand { address } => Ok(expand_input(alloc, address.sides(), input)?),
+        Command::Derive => Ok(derive_input(alloc, input)?),
+        Command::Laver { exponent } => Ok(build_table(alloc, *exponent)?),
+        Command::Row { exponent, row } => Ok(build_row(alloc, *exponent, *row)?),
         Command::Session => unreachable!(),
-        Command::Bench { pairs, count, seed } => Ok(bench(alloc, pairs, count, seed)?),
+        Command::Bench { pairs, count, seed } => Ok(bench(alloc, *pairs, *count, *seed)?),
     }
 }
 
 // Reads the input of a command that has one, and does it.
 fn perform_reading<S: Source>(
     alloc: Global,
-    command: Command,
+    command: &Command<'_>,
     source: &mut S,
 ) -> Result<Outcome, Stop>
-    requires bounded { IsBounded command }
-    requires reads { reads_first command ≡ true }
-    ensures outcome { IfOk result (λ outcome. IfSome (S.left source.old) (λ input. Answers command input (answer_of outcome))) }
+    requires bounded { IsBounded command.now }
+    requires reads { reads_first command.now ≡ true }
+    ensures outcome { IfOk result (λ outcome. IfSome (S.left source.old) (λ input. Answers command.now input (answer_of outcome))) }
     ensures known { IfOk result (λ outcome. (answer_of outcome).status ≢ Status.Words) }
     ensures left { IfOk result (λ _. S.left source.new ≡ option_map (drop (MAX_INPUT + 1)) (S.left source.old)) }
     ensures front { (n : ℕ) × (n ≤ MAX_INPUT + 1) × Skips (S.left source.old) (S.left source.new) n }
@@ -94,10 +99,10 @@ fn perform_reading<S: Source>(
 }
 
 // Does a command that has no input.
-fn perform_alone(alloc: Global, command: Command) -> Result<Outcome, Stop>
-    requires bounded { IsBounded command }
-    requires alone { reads_input command ≡ false }
-    ensures outcome { IfOk result (λ outcome. (input : List ℕ) → Answers command input (answer_of outcome)) }
+fn perform_alone(alloc: Global, command: &Command<'_>) -> Result<Outcome, Stop>
+    requires bounded { IsBounded command.now }
+    requires alone { reads_input command.now ≡ false }
+    ensures outcome { IfOk result (λ outcome. (input : List ℕ) → Answers command.now input (answer_of outcome)) }
     ensures known { IfOk result (λ outcome. (answer_of outcome).status ≢ Status.Words) }
     ensures stop { result ≢ Err Stop.ReadFault }
 {
@@ -105,13 +110,13 @@ fn perform_alone(alloc: Global, command: Command) -> Result<Outcome, Stop>
 }
 
 // Reads the input of a command, if it has one, and does it.
-fn perform<S: Source>(alloc: Global, command: Command, source: &mut S) -> Result<Outcome, Stop>
-    requires bounded { IsBounded command }
-    requires once { command ≢ Session }
-    ensures outcome { IfOk result (λ outcome. IfSome (S.left source.old) (λ input. Answers command input (answer_of outcome))) }
+fn perform<S: Source>(alloc: Global, command: &Command<'_>, source: &mut S) -> Result<Outcome, Stop>
+    requires bounded { IsBounded command.now }
+    requires once { command.now ≢ Session }
+    ensures outcome { IfOk result (λ outcome. IfSome (S.left source.old) (λ input. Answers command.now input (answer_of outcome))) }
     ensures known { IfOk result (λ outcome. (answer_of outcome).status ≢ Status.Words) }
-    ensures left { IfOk result (λ _. reads_input command ≡ true → S.left source.new ≡ option_map (drop (MAX_INPUT + 1)) (S.left source.old)) }
-    ensures alone { reads_input command ≡ false → (source.new ≡ source.old) × (result ≢ Err Stop.ReadFault) × IfOk result (λ outcome. (input : List ℕ) → Answers command input (answer_of outcome)) }
+    ensures left { IfOk result (λ _. reads_input command.now ≡ true → S.left source.new ≡ option_map (drop (MAX_INPUT + 1)) (S.left source.old)) }
+    ensures alone { reads_input command.now ≡ false → (source.new ≡ source.old) × (result ≢ Err Stop.ReadFault) × IfOk result (λ outcome. (input : List ℕ) → Answers command.now input (answer_of outcome)) }
     ensures front { (n : ℕ) × (n ≤ MAX_INPUT + 1) × Skips (S.left source.old) (S.left source.new) n }
     ensures fault { result ≡ Err Stop.ReadFault → Rose (S.faults source.old) (S.faults source.new) }
     ensures later { S.faults source.old ≤ S.faults source.new }
@@ -193,7 +198,7 @@ pub fn run<S: Source, K: Sink>(
     if let Command::Session = command {
         return serve(alloc, source, sink);
     }
-    match perform(alloc, command, source) {
+    match perform(alloc, &command, source) {
         Ok(outcome) => outcome.write(sink),
         Err(Stop::ReadFault) => Status::ReadFault,
         Err(Stop::Memory) => Status::Memory,

@@ -3,10 +3,10 @@ ghost use Rattle.braid_word.specs.declared.TheConstants.{MAX_INDEX};
 ghost use Rattle.handle_reduce.specs.declared.TheConstants.{MAX_BOUND};
 ghost use Rattle.ld_term.specs.Terms.{height};
 ghost use Rattle.term_graph.specs.TermLists.{term_at, braid_length};
-ghost use Rattle.term_graph.specs.StrictTexts.{strict_text};
+ghost use Rattle.ld_term.specs.StrictTexts.{strict_text};
 ghost use Rattle.term_graph.specs.declared.file_error.DefsErr.TheVariants.{Memory};
 ghost use Rattle.term_eval.specs.Braids.{braid};
-ghost use Rattle.wb_top.specs.TermAnswers.{file_refused, evaluated, IsEvaluated, braids_compared, terms_compared, AreCompared};
+ghost use Rattle.wb_top.specs.TermAnswers.{file_refused, evaluated, IsOnTerm, braids_compared, terms_compared, AreCompared};
 ghost use Rattle.wb_top.specs.Outcomes.{answer_of};
 
 use crate::compare::{Ended, reduce};
@@ -18,8 +18,8 @@ use term_eval::{EvalErr, eval};
 use term_graph::{DefsErr, NodeId, TermGraph, read_terms};
 use wb_base::Status;
 
-// What a term file comes to that is refused.
-fn refuse(error: DefsErr) -> Result<Outcome, AllocError>
+/// What a term file comes to that is refused.
+pub(crate) fn refuse(error: DefsErr) -> Result<Outcome, AllocError>
     ensures outcome { IfOk result (λ outcome. (error ≢ Memory) × (file_refused error ≡ answer_of outcome)) }
     ensures known { IfOk result (λ outcome. (answer_of outcome).status ≢ Status.Words) }
 {
@@ -62,7 +62,7 @@ fn eval_term(
 /// The braid word of the term of an input, over words of at most so many letters.
 pub(crate) fn eval_input(alloc: Global, limit: u32, input: &[u8]) -> Result<Outcome, AllocError>
     requires { limit ≤ MAX_BOUND }
-    ensures outcome { IfOk result (λ outcome. IsEvaluated limit input.now (answer_of outcome)) }
+    ensures outcome { IfOk result (λ outcome. IsOnTerm (λ made t. evaluated limit t) input.now (answer_of outcome)) }
     ensures known { IfOk result (λ outcome. (answer_of outcome).status ≢ Status.Words) }
 {
     match read_terms(alloc, input, 1) {

@@ -183,8 +183,14 @@ fn refuses_a_word_of_too_many_letters(rt: HostRuntime) -> Result<(), Fail> {
 
 #[test]
 fn checks_a_trace_file_of_any_maker(rt: HostRuntime) -> Result<(), Fail> {
-    let rows: [(&[u8], Status, &[u8]); 13] = [
+    let rows: [(&[u8], Status, &[u8]); 15] = [
         (LESS, Status::Done, b"accepted less\n"),
+        (TERMS, Status::Done, b"accepted equal\n"),
+        (
+            b"braid-trace 1\nleft-term x*x\n",
+            Status::Refused,
+            b"refused 2 form\n",
+        ),
         (EQUAL, Status::Done, b"accepted equal\n"),
         (GREATER, Status::Done, b"accepted greater\n"),
         (
@@ -300,6 +306,56 @@ fn gives_the_braid_of_a_term(rt: HostRuntime) -> Result<(), Fail> {
         ),
         ("eval 9", b"", Status::Input, b"input 1 lines\n"),
         ("eval 100001", b"x\n", Status::Words, USAGE),
+    ];
+    Ok(assert_rows(&rt, rt.alloc(), &rows, &[])?)
+}
+
+#[test]
+fn gives_values_and_listings_of_terms(rt: HostRuntime) -> Result<(), Fail> {
+    let rows: [Row; 13] = [
+        ("value 3", b"x*(x*x)\n", Status::Done, b"4\n"),
+        ("value 0", b"a = x*x\na*a\n", Status::Done, b"1\n"),
+        ("value 3", b"a*x\n", Status::Input, b"input 1 unknown 1\n"),
+        (
+            "expand .",
+            b"x*(x*x)\n",
+            Status::Done,
+            b"t1 = (x*x)\nt2 = (t1*t1)\nt2\n",
+        ),
+        (
+            "expand .0",
+            b"a = x*(x*x)\na*a\n",
+            Status::Done,
+            b"t1 = (x*x)\nt2 = (t1*t1)\nt3 = (x*t1)\nt4 = (t2*t3)\nt4\n",
+        ),
+        (
+            "expand .1",
+            b"x*(x*x)\n",
+            Status::Input,
+            b"input 1 expand\n",
+        ),
+        (
+            "expand .00",
+            b"a = x*(x*x)\na\n",
+            Status::Input,
+            b"input 2 address\n",
+        ),
+        ("expand .", b"x*\n", Status::Input, b"input 1 term 3\n"),
+        (
+            "derive",
+            b"(x*x)*(x*x)\n",
+            Status::Done,
+            b"t1 = (x*x)\nt2 = (t1*x)\nt3 = (t2*t2)\nt3\n",
+        ),
+        ("derive", b"x\n", Status::Done, b"x\n"),
+        (
+            "derive",
+            b"a = x*x\nb = a*a\nc = b*b\nd = c*c\ne = d*d\nf = e*e\ng = f*f\nh = g*g\ni = h*h\ni*i\n",
+            Status::Limit,
+            b"limit height 1000\n",
+        ),
+        ("derive", b"", Status::Input, b"input 1 lines\n"),
+        ("expand .2", b"x*(x*x)\n", Status::Words, USAGE),
     ];
     Ok(assert_rows(&rt, rt.alloc(), &rows, &[])?)
 }
@@ -446,6 +502,13 @@ fn reads_nothing_for_words_that_are_no_command(rt: HostRuntime) -> Result<(), Fa
         "act 3 1 0",
         "act 3 1 100001",
         "act 3 1 9 9",
+        "value",
+        "value 11",
+        "value 1 1",
+        "expand",
+        "expand 0",
+        "expand .0 1",
+        "derive 1",
         "laver",
         "laver 9",
         "laver 1 1",

@@ -5,10 +5,10 @@ use Rattle.wb_top.proofs.input.put_bare.Goals as goal
 
 pub returns-in_err-put_numbered-clause-took : goal.returns-in_err-put_numbered-clause-took
 returns-in_err-put_numbered-clause-took g c =
-    Puts-stopped _ _ _ _ _ _ (line-append (codes "input " ++ decimal c.args.line) (codes " lines"))
+    Puts-stopped _ _ _ _ _ _ (line-append (codes "input " ++ decimal c.args.line) c.args.name.now)
     c.from_residual.ensures.0 c.in_err-put_numbered.ensures.took
 
 pub returns-clause-took : goal.returns-clause-took
 returns-clause-took g c =
-    Puts-more _ _ _ _ _ _ _ (line-append (codes "input " ++ decimal c.args.line) (codes " lines"))
+    Puts-more _ _ _ _ _ _ _ (line-append (codes "input " ++ decimal c.args.line) c.args.name.now)
     c.in_ok-put_numbered.ensures.took c.put_line.ensures.took

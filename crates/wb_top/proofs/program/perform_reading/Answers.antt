@@ -8,7 +8,7 @@ use Rattle.wb_top.proofs.program.perform_reading.Goals as goal
 
 pub returns-in-Ok-clause-outcome : goal.returns-in-Ok-clause-outcome
 returns-in-Ok-clause-outcome g c =
-    IfOk-weaker _ _ _ (λ outcome is. Answers-read c.args.command _ _ _ (answer_of outcome) c.in-Ok.ensures.all c.in-Ok.ensures.within (subst (λ bytes. AnswersShort c.args.command bytes (answer_of outcome)) c.deref.ensures.value is)) c.perform_on.ensures.outcome
+    IfOk-weaker _ _ _ (λ outcome is. Answers-read c.args.command.now _ _ _ (answer_of outcome) c.in-Ok.ensures.all c.in-Ok.ensures.within (subst (λ bytes. AnswersShort c.args.command.now bytes (answer_of outcome)) c.deref.ensures.value is)) c.perform_on.ensures.outcome
 
 pub returns-in-Ok-clause-left : goal.returns-in-Ok-clause-left
 returns-in-Ok-clause-left g c =

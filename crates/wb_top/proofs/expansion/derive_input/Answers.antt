@@ -1,0 +1,17 @@
+use Rattle.std.proofs.lemmas.Result.{IfOk-weaker}
+use Rattle.wb_top.specs.ExpansionAnswers.{derived_in}
+use Rattle.wb_top.specs.Outcomes.{answer_of}
+use Rattle.wb_top.proofs.TermAnswerLemmas.{IsOnTerm-refused, IsOnTerm-read}
+use Rattle.wb_top.proofs.expansion.derive_input.Goals as goal
+
+pub returns-in-Ok-clause-outcome : goal.returns-in-Ok-clause-outcome
+returns-in-Ok-clause-outcome c =
+    IfOk-weaker _ _ _ (λ outcome is.
+    IsOnTerm-read derived_in c.args.input.now _ _ _ (answer_of outcome) c.in-Ok.ensures.file c.in-Ok.ensures.second is)
+    c.derive_term.ensures.outcome
+
+pub returns-in-Err-clause-outcome : goal.returns-in-Err-clause-outcome
+returns-in-Err-clause-outcome c =
+    IfOk-weaker _ _ _ (λ outcome is.
+    IsOnTerm-refused derived_in c.args.input.now c.in-Err.error (answer_of outcome) c.in-Err.ensures.refused is)
+    c.refuse.ensures.outcome
