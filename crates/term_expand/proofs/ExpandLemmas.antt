@@ -2,17 +2,17 @@
 --
 -- An expansion of a part is one of the whole (`expansion_at-Expands`). A function that went to a part has only
 -- the product above it to ask for (`IsDue`), and so its answer is an outcome (`product-done`, `product-refused`).
-use Rattle.std.proofs.Common.{◌≡◌, ℕ, ◌<◌, ◌==◌, ◌⊎◌, inl, inr, true, false, List, [], ◌∷◌, ◌++◌, length, Result, Ok, Err, IfOk, IsErrOf, refl, sym, ap, ◌∙◌, subst, arith}
+use Rattle.std.proofs.Common.{◌≡◌, ℕ, ◌<◌, ◌==◌, inl, inr, true, false, List, [], ◌∷◌, ◌++◌, length, Result, Ok, Err, IfOk, refl, sym, ap, ◌∙◌, subst, arith}
 use Rattle.std.proofs.lemmas.Bool.{cases_Bool, eq-eqb, ne_eqb}
 use Rattle.ld_term.specs.Terms.{Term, variable, multiply, Expands, here, on_left, on_right}
 use Rattle.term_graph.specs.TermLists.{term_at}
-use Rattle.term_graph.specs.Asks.{Asked, answered, ask, ask_all, IsRefusal}
+use Rattle.term_graph.specs.Asks.{Asked, answered, ask, ask_all, IsRefusal, IsStopped}
 use Rattle.term_graph.specs.Requests.{IsFront}
 use Rattle.term_graph.specs.declared.error.GraphErr.{GraphErr}
 use Rattle.term_graph.specs.declared.error.GraphErr.TheVariants as graph_errors
-use Rattle.term_graph.proofs.AskLemmas.{ask_all-append}
-use Rattle.term_graph.proofs.RequestLemmas.{IsFront-trans, IsFront-ask, term_at-front, length-front, IsRefusal-first, IsRefusal-second}
-use Rattle.term_expand.specs.Expansions.{Expansion, expanded, no_place, not_expandable, within, expansion_at, IsExpandRefusal}
+use Rattle.term_graph.proofs.StopLemmas.{IsStopped-first, IsStopped-one, IsStopped-refusal, ask_all-one, AreLeft, AreLeft-one, AreLeft-stopped, AreLeft-granted, AreLeft-more}
+use Rattle.term_graph.proofs.RequestLemmas.{IsFront-trans, IsFront-ask, term_at-front, length-front}
+use Rattle.term_expand.specs.Expansions.{Expansion, expanded, no_place, not_expandable, within, expansion_at, IsExpandRefusal, IsExpandStopped}
 use Rattle.term_expand.specs.Requests.{above, expand_requests}
 use Rattle.term_expand.specs.Outcomes.{failure_of, Outcome}
 use Rattle.term_expand.specs.declared.error.ExpandErr.{ExpandErr}
@@ -74,18 +74,6 @@ within-stuck whole not_expandable is = refl
 
 -- ---- Outcomes ----
 
--- a refused product isn't a fault of the address
-failure-request
-    : (old new : List Term) (e : GraphErr)
-    → IsErrOf {T = ℕ} (Err (failure_of e)) NoPlace ⊎ IsErrOf {T = ℕ} (Err (failure_of e)) NotExpandable
-    → new ≡ old
-failure-request old new graph_errors.TooDeep (inl is) = absurd cc
-failure-request old new graph_errors.TooDeep (inr is) = absurd cc
-failure-request old new graph_errors.Full (inl is) = absurd cc
-failure-request old new graph_errors.Full (inr is) = absurd cc
-failure-request old new graph_errors.Memory (inl is) = absurd cc
-failure-request old new graph_errors.Memory (inr is) = absurd cc
-
 -- a refused product fails the expansion for its cause
 failure-refusal
     : (expansion : Expansion) (asked : Asked) (e : GraphErr)
@@ -95,22 +83,33 @@ failure-refusal expansion asked graph_errors.TooDeep is = is
 failure-refusal expansion asked graph_errors.Full is = is
 failure-refusal expansion asked graph_errors.Memory is = tt
 
--- a product is refused
-pub refused-outcome
+-- it leaves the graph as the product's requests did
+failure-stopped
+    : (old new requests : List Term) (e : GraphErr)
+    → IsStopped old new requests e
+    → IsExpandStopped old new requests (failure_of e)
+failure-stopped old new requests graph_errors.TooDeep stop = stop
+failure-stopped old new requests graph_errors.Full stop = stop
+failure-stopped old new requests graph_errors.Memory stop = stop
+
+-- the requests stop
+pub stopped-outcome
     : (old new : List Term) (address : List ℕ) (t u : Term) (e : GraphErr)
     → expansion_at address t ≡ expanded u
-    → IsRefusal (ask_all (answered old) (expand_requests address t)) e
+    → IsStopped old new (expand_requests address t) e
     → IsFront old new
     → Outcome old address t new (Err (failure_of e))
-refused-outcome old new address t u e is refused kept = record {
+stopped-outcome old new address t u e is stop kept = record {
   number = tt;
   term = tt;
   asked = tt;
-  refused = failure-refusal (expansion_at address t) (ask_all (answered old) (expand_requests address t)) e refused;
+  refused =
+      failure-refusal (expansion_at address t) (ask_all (answered old) (expand_requests address t)) e
+      (IsStopped-refusal old new (expand_requests address t) e stop);
   placeless = λ other. let none : expanded u ≡ no_place = sym is ∙ other in absurd cc;
   stuck = λ other. let none : expanded u ≡ not_expandable = sym is ∙ other in absurd cc;
+  stopped = failure-stopped old new (expand_requests address t) e stop;
   kept = kept;
-  untouched = failure-request old new e;
 }
 
 -- ---- The last product ----
@@ -118,7 +117,7 @@ refused-outcome old new address t u e is refused kept = record {
 -- Of an expansion's requests only that for the whole term is left.
 pub record IsDue (old mid : List Term) (address : List ℕ) (t u : Term) : Type 0 where
   pub expansion : expansion_at address t ≡ expanded u
-  pub asked : ask_all (answered old) (expand_requests address t) ≡ ask mid u
+  pub due : AreLeft old mid (expand_requests address t) (u ∷ [])
   pub kept : IsFront old mid
 
 -- it is refused
@@ -129,8 +128,8 @@ pub product-refused
     → new ≡ mid
     → Outcome old address t new (Err (failure_of e))
 product-refused old mid new address t u e due refused same =
-    refused-outcome old new address t u e due.expansion
-    (subst (λ z. IsRefusal z e) (sym due.asked) refused)
+    stopped-outcome old new address t u e due.expansion
+    (AreLeft-stopped old mid new _ _ e due.due (IsStopped-one mid new u e refused same))
     (subst (IsFront old) (sym same) due.kept)
 
 -- it is granted
@@ -144,15 +143,12 @@ pub product-done
 product-done old mid new address t u n due within is granted = record {
   number = within;
   term = due.expansion ∙ ap expanded (sym is);
-  asked = due.asked ∙ granted;
+  asked = AreLeft-one old mid _ u due.due ∙ granted;
   refused = tt;
   placeless = λ other. let none : expanded u ≡ no_place = sym due.expansion ∙ other in absurd cc;
   stuck = λ other. let none : expanded u ≡ not_expandable = sym due.expansion ∙ other in absurd cc;
+  stopped = tt;
   kept = IsFront-trans old mid new due.kept (IsFront-ask mid new u granted);
-  untouched = λ fault. elim fault [
-    | inl is ↦ absurd cc
-    | inr is ↦ absurd cc
-  ];
 }
 
 -- ---- One step of the address ----
@@ -184,21 +180,38 @@ right-step address rest side t a b is right product =
     let test : (side == 48) ≡ false = ne_eqb side 48 right in
     record { expansion = rw (is, product, test) refl; requests = rw (is, product, test) refl }
 
+-- where the requests of the part stop, those of the whole do
+step-stopped
+    : (old new : List Term) (address rest : List ℕ) (t part : Term) (whole : Term → Term) (e : ExpandErr)
+    → IsStep address rest t part whole
+    → IsExpandStopped old new (expand_requests rest part) e
+    → IsExpandStopped old new (expand_requests address t) e
+step-stopped old new address rest t part whole NoPlace step same = same
+step-stopped old new address rest t part whole NotExpandable step same = same
+step-stopped old new address rest t part whole TooDeep step stop =
+    subst (λ z. IsStopped old new z graph_errors.TooDeep) (sym step.requests)
+    (IsStopped-first old new (expand_requests rest part) _ graph_errors.TooDeep stop)
+step-stopped old new address rest t part whole Full step stop =
+    subst (λ z. IsStopped old new z graph_errors.Full) (sym step.requests)
+    (IsStopped-first old new (expand_requests rest part) _ graph_errors.Full stop)
+step-stopped old new address rest t part whole Memory step stop =
+    subst (λ z. IsStopped old new z graph_errors.Memory) (sym step.requests)
+    (IsStopped-first old new (expand_requests rest part) _ graph_errors.Memory stop)
+
 -- a refusal of the part is one of the whole
 step-refusal
-    : (old : List Term) (address rest : List ℕ) (t part : Term) (whole : Term → Term) (e : ExpandErr)
+    : (old new : List Term) (address rest : List ℕ) (t part : Term) (whole : Term → Term) (e : ExpandErr)
     → IsStep address rest t part whole
     → IsExpandRefusal (expansion_at rest part) (ask_all (answered old) (expand_requests rest part)) e
+    → IsExpandStopped old new (expand_requests address t) e
     → IsExpandRefusal (expansion_at address t) (ask_all (answered old) (expand_requests address t)) e
-step-refusal old address rest t part whole NoPlace step is = step.expansion ∙ ap (within whole) is
-step-refusal old address rest t part whole NotExpandable step is = step.expansion ∙ ap (within whole) is
-step-refusal old address rest t part whole TooDeep step is =
-    ap (ask_all (answered old)) step.requests
-    ∙ IsRefusal-first (answered old) (expand_requests rest part) _ graph_errors.TooDeep is
-step-refusal old address rest t part whole Full step is =
-    ap (ask_all (answered old)) step.requests
-    ∙ IsRefusal-first (answered old) (expand_requests rest part) _ graph_errors.Full is
-step-refusal old address rest t part whole Memory step is = tt
+step-refusal old new address rest t part whole NoPlace step is stop = step.expansion ∙ ap (within whole) is
+step-refusal old new address rest t part whole NotExpandable step is stop = step.expansion ∙ ap (within whole) is
+step-refusal old new address rest t part whole TooDeep step is stop =
+    IsStopped-refusal old new (expand_requests address t) graph_errors.TooDeep stop
+step-refusal old new address rest t part whole Full step is stop =
+    IsStopped-refusal old new (expand_requests address t) graph_errors.Full stop
+step-refusal old new address rest t part whole Memory step is stop = tt
 
 -- where the part isn't expanded, the whole isn't
 pub part-refused
@@ -210,11 +223,13 @@ part-refused old new address rest t part whole e step out = record {
   number = tt;
   term = tt;
   asked = tt;
-  refused = step-refusal old address rest t part whole e step out.refused;
+  refused =
+      step-refusal old new address rest t part whole e step out.refused
+      (step-stopped old new address rest t part whole e step out.stopped);
   placeless = λ is. out.placeless (within-placeless whole (expansion_at rest part) (sym step.expansion ∙ is));
   stuck = λ is. out.stuck (within-stuck whole (expansion_at rest part) (sym step.expansion ∙ is));
+  stopped = step-stopped old new address rest t part whole e step out.stopped;
   kept = out.kept;
-  untouched = out.untouched;
 }
 
 -- where the part is expanded, the product above it is due
@@ -227,10 +242,10 @@ part-done old mid address rest t part whole n step out =
     let last = whole (term_at mid n) in
     record {
       expansion = step.expansion ∙ ap (within whole) out.term;
-      asked =
-          ap (ask_all (answered old)) (step.requests ∙ ap (λ z. expand_requests rest part ++ above whole z) out.term)
-          ∙ ask_all-append (answered old) (expand_requests rest part) (last ∷ [])
-          ∙ ap (λ z. ask_all z (last ∷ [])) out.asked;
+      due =
+          subst (λ z. AreLeft old mid z (last ∷ []))
+          (sym (step.requests ∙ ap (λ z. expand_requests rest part ++ above whole z) out.term))
+          (AreLeft-granted old mid (expand_requests rest part) (last ∷ []) out.asked);
       kept = out.kept;
     }
 
@@ -302,6 +317,12 @@ module _ (old : List Term) (t : Term) (left middle last : ℕ) (placed : ArePlac
         ap (λ z. multiply z (term_at mid last)) (term_at-front old mid left front placed.left_within)
         ∙ ap (multiply (term_at old left)) (term_at-front old mid last front placed.last_within)
 
+    -- behind tu the two others are left
+    first-due : AreLeft old mid (expand_requests [] t) (here_second ∷ (multiply here_first here_second ∷ []))
+    first-due =
+        subst (λ z. AreLeft old mid z (here_second ∷ (multiply here_first here_second ∷ []))) (sym here-requests)
+        (AreLeft-granted old mid (here_first ∷ []) _ (ask_all-one old here_first ∙ granted))
+
     -- tv is refused
     pub second-refused
         : (new : List Term) (e : GraphErr)
@@ -309,10 +330,10 @@ module _ (old : List Term) (t : Term) (left middle last : ℕ) (placed : ArePlac
         → new ≡ mid
         → Outcome old [] t new (Err (failure_of e))
     second-refused new e refused same =
-        refused-outcome old new [] t _ e here-expansion
-        (subst (λ z. IsRefusal (ask_all (answered old) z) e) (sym here-requests)
-        (IsRefusal-second old mid (here_first ∷ []) (here_second ∷ (multiply here_first here_second ∷ [])) e granted
-        (IsRefusal-first (answered mid) (here_second ∷ []) (multiply here_first here_second ∷ []) e (subst (λ z. IsRefusal (ask mid z) e) second-is refused))))
+        stopped-outcome old new [] t _ e here-expansion
+        (AreLeft-stopped old mid new _ _ e first-due
+        (IsStopped-first mid new (here_second ∷ []) (multiply here_first here_second ∷ []) e
+        (IsStopped-one mid new here_second e (subst (λ z. IsRefusal (ask mid z) e) second-is refused) same)))
         (subst (IsFront old) (sym same) front)
 
     -- both are granted
@@ -332,11 +353,10 @@ module _ (old : List Term) (t : Term) (left middle last : ℕ) (placed : ArePlac
           length-front mid new first behind within,
           record {
             expansion = here-expansion ∙ ap expanded product;
-            asked =
-                ap (ask_all (answered old)) here-requests
-                ∙ ap (λ z. ask_all z (here_second ∷ (multiply here_first here_second ∷ []))) granted
-                ∙ ap (λ z. ask_all z (multiply here_first here_second ∷ [])) also_granted
-                ∙ ap (ask new) product;
+            due =
+                subst (λ z. AreLeft old new (expand_requests [] t) (z ∷ [])) product
+                (AreLeft-more old mid new (expand_requests [] t) (here_second ∷ []) _ first-due
+                (ask_all-one mid here_second ∙ also_granted));
             kept = IsFront-trans old mid new front behind;
           },
         )

@@ -1,15 +1,15 @@
 -- How a distribution and a derivation are made, each of those of two parts and of a third step.
 --
--- Where the first or the second is refused, the whole is (`first-refused`, `second-refused`); behind both the
--- rest is asked of what is then there (`parts-made`).
-use Rattle.std.proofs.Common.{◌≡◌, ℕ, ◌<◌, List, [], ◌∷◌, ◌++◌, Result, Ok, Err, IfOk, length, refl, sym, ap, ◌∙◌, subst, arith}
+-- Where the requests stop in the first or the second, those of the whole do (`first-stopped`, `second-stopped`);
+-- behind both the rest is left (`parts-made`).
+use Rattle.std.proofs.Common.{◌≡◌, ℕ, ◌<◌, List, [], ◌∷◌, ◌++◌, Result, Ok, Err, IfOk, length, refl, sym, ◌∙◌, subst, arith}
 use Rattle.ld_term.specs.Terms.{Term, multiply, IsEquivalent}
 use Rattle.ld_term.proofs.TermLemmas.{IsEquivalent-distributed, IsEquivalent-derived}
 use Rattle.term_graph.specs.TermLists.{term_at}
-use Rattle.term_graph.specs.Asks.{Asked, answered, ask, ask_all, IsRefusal}
+use Rattle.term_graph.specs.Asks.{answered, ask, IsRefusal, IsStopped}
 use Rattle.term_graph.specs.declared.error.GraphErr.{GraphErr}
-use Rattle.term_graph.proofs.AskLemmas.{ask_all-append}
-use Rattle.term_graph.proofs.RequestLemmas.{term_at-front, IsRefusal-first, IsRefusal-second}
+use Rattle.term_graph.proofs.StopLemmas.{IsStopped-first, IsStopped-one, AreLeft, AreLeft-asked, AreLeft-one, AreLeft-stopped, AreLeft-granted, AreLeft-more}
+use Rattle.term_graph.proofs.RequestLemmas.{term_at-front}
 use Rattle.term_expand.specs.Requests.{distribute_requests}
 use Rattle.term_expand.specs.Memos.{wanted, requests, HasNumbers, IsMade}
 use Rattle.term_expand.specs.declared.memo.Work.{Work}
@@ -17,13 +17,6 @@ use Rattle.term_expand.specs.declared.memo.Work.TheVariants.{Distribution, Deriv
 use Rattle.term_expand.proofs.MemoLemmas.{wanted-front, requests-front, IsMade-front}
 
 -- ---- Two parts ----
-
--- one request
-ask_all-one : (terms : List Term) (t : Term) → ask_all (answered terms) (t ∷ []) ≡ ask terms t
-ask_all-one terms t = by_answer (ask terms t)
-  where
-    by_answer : (asked : Asked) → ask_all asked [] ≡ asked
-    by_answer asked = refl
 
 -- A work begins with two others.
 pub record Begins (terms : List Term) (work one two : Work) (rest : List Term) : Type 0 where
@@ -35,33 +28,38 @@ pub record Begins (terms : List Term) (work one two : Work) (rest : List Term) :
 pub record AreMade (old last : List Term) (work one two : Work) (rest : List Term) (left right : ℕ) : Type 0 where
   pub left_is : term_at last left ≡ wanted old one
   pub right_is : term_at last right ≡ wanted old two
-  pub asked : ask_all (answered old) (requests old work) ≡ ask_all (answered last) rest
+  pub due : AreLeft old last (requests old work) rest
 
 module _ (old : List Term) (work one two : Work) (rest : List Term) (begins : Begins old work one two rest) where
-  -- the first is refused
-  pub first-refused
-      : (e : GraphErr)
-      → IsRefusal (ask_all (answered old) (requests old one)) e
-      → IsRefusal (ask_all (answered old) (requests old work)) e
-  first-refused e refused =
-      subst (λ z. IsRefusal (ask_all (answered old) z) e) (sym begins.is)
-      (IsRefusal-first (answered old) (requests old one) _ e refused)
+  -- the requests stop in the first
+  pub first-stopped
+      : (new : List Term) (e : GraphErr)
+      → IsStopped old new (requests old one) e
+      → IsStopped old new (requests old work) e
+  first-stopped new e stop =
+      subst (λ z. IsStopped old new z e) (sym begins.is)
+      (IsStopped-first old new (requests old one) _ e stop)
 
   module _ (mid : List Term) (left : ℕ) (made : IsMade old mid one left) where
-    -- the second is refused
-    pub second-refused
-        : (e : GraphErr)
-        → IsRefusal (ask_all (answered mid) (requests mid two)) e
-        → IsRefusal (ask_all (answered old) (requests old work)) e
-    second-refused e refused =
+    -- behind the first the second is left
+    first-made : AreLeft old mid (requests old work) (requests mid two ++ rest)
+    first-made =
         let front = IsMade-front old mid one left made in
         let same : requests mid two ≡ requests old two = requests-front old mid front two begins.second in
-        subst (λ z. IsRefusal (ask_all (answered old) z) e) (sym begins.is)
-        (IsRefusal-second old mid (requests old one) _ e made.asked
-        (IsRefusal-first (answered mid) (requests old two) rest e
-        (subst (λ z. IsRefusal (ask_all (answered mid) z) e) same refused)))
+        subst (λ z. AreLeft old mid (requests old work) (z ++ rest)) (sym same)
+        (subst (λ z. AreLeft old mid z (requests old two ++ rest)) (sym begins.is)
+        (AreLeft-granted old mid (requests old one) _ made.asked))
 
-    -- behind both the rest is asked for
+    -- the requests stop in the second
+    pub second-stopped
+        : (new : List Term) (e : GraphErr)
+        → IsStopped mid new (requests mid two) e
+        → IsStopped old new (requests old work) e
+    second-stopped new e stop =
+        AreLeft-stopped old mid new (requests old work) _ e first-made
+        (IsStopped-first mid new (requests mid two) rest e stop)
+
+    -- behind both the rest is left
     pub parts-made
         : (last : List Term) (right : ℕ)
         → IsMade mid last two right
@@ -72,13 +70,7 @@ module _ (old : List Term) (work one two : Work) (rest : List Term) (begins : Be
         record {
           left_is = term_at-front mid last left behind made.within ∙ made.term;
           right_is = next.term ∙ wanted-front old mid front two begins.second;
-          asked =
-              ap (ask_all (answered old)) begins.is
-              ∙ ask_all-append (answered old) (requests old one) (requests old two ++ rest)
-              ∙ ap (λ z. ask_all z (requests old two ++ rest)) made.asked
-              ∙ ask_all-append (answered mid) (requests old two) rest
-              ∙ ap (λ z. ask_all (ask_all (answered mid) z) rest) (sym (requests-front old mid front two begins.second))
-              ∙ ap (λ z. ask_all z rest) next.asked;
+          due = AreLeft-more old mid last (requests old work) (requests mid two) rest first-made next.asked;
         }
 
 -- ---- Distribution ----
@@ -101,20 +93,20 @@ module _
   module _
       (last : List Term) (l r : ℕ)
       (made : AreMade old last (Distribution a b) (Distribution a left) (Distribution a right) product l r) where
-    -- behind them one product is asked for
-    last-request
-        : ask_all (answered old) (requests old (Distribution a b)) ≡ ask last (multiply (term_at last l) (term_at last r))
+    -- behind them one product is left
+    last-request : AreLeft old last (requests old (Distribution a b)) (multiply (term_at last l) (term_at last r) ∷ [])
     last-request =
-        made.asked
-        ∙ ask_all-one last (multiply (wanted old (Distribution a left)) (wanted old (Distribution a right)))
-        ∙ rw (made.left_is, made.right_is) refl
+        subst (λ z. AreLeft old last (requests old (Distribution a b)) (z ∷ []))
+        (rw (made.left_is, made.right_is) refl) made.due
 
     -- it is refused
-    pub product-refused
-        : (e : GraphErr)
+    pub last-stopped
+        : (new : List Term) (e : GraphErr)
         → IsRefusal (ask last (multiply (term_at last l) (term_at last r))) e
-        → IsRefusal (ask_all (answered old) (requests old (Distribution a b))) e
-    product-refused e refused = subst (λ z. IsRefusal z e) (sym last-request) refused
+        → new ≡ last
+        → IsStopped old new (requests old (Distribution a b)) e
+    last-stopped new e refused same =
+        AreLeft-stopped old last new _ _ e last-request (IsStopped-one last new _ e refused same)
 
     -- or made
     pub product-made
@@ -126,7 +118,7 @@ module _
     product-made new n within is asked = record {
       within = within;
       term = is ∙ rw (made.left_is, made.right_is, parts.2) refl;
-      asked = last-request ∙ asked;
+      asked = AreLeft-one old last _ _ last-request ∙ asked;
     }
 
 -- a term that was made by distribution is equivalent to the product
@@ -159,17 +151,18 @@ module _
   module _
       (last : List Term) (l r : ℕ)
       (made : AreMade old last (Derivation a) (Derivation left) (Derivation right) distribution l r) where
-    -- behind them the distribution is asked for
-    last-requests
-        : ask_all (answered old) (requests old (Derivation a)) ≡ ask_all (answered last) (requests last (Distribution l r))
-    last-requests = made.asked ∙ rw (made.left_is, made.right_is) refl
+    -- behind them the distribution is left
+    last-requests : AreLeft old last (requests old (Derivation a)) (requests last (Distribution l r))
+    last-requests =
+        subst (AreLeft old last (requests old (Derivation a)))
+        (rw (made.left_is, made.right_is) refl) made.due
 
-    -- it is refused
-    pub distribution-refused
-        : (e : GraphErr)
-        → IsRefusal (ask_all (answered last) (requests last (Distribution l r))) e
-        → IsRefusal (ask_all (answered old) (requests old (Derivation a))) e
-    distribution-refused e refused = subst (λ z. IsRefusal z e) (sym last-requests) refused
+    -- the requests stop in it
+    pub distribution-stopped
+        : (new : List Term) (e : GraphErr)
+        → IsStopped last new (requests last (Distribution l r)) e
+        → IsStopped old new (requests old (Derivation a)) e
+    distribution-stopped new e stop = AreLeft-stopped old last new _ _ e last-requests stop
 
     -- or made
     pub distribution-made
@@ -179,7 +172,7 @@ module _
     distribution-made new n next = record {
       within = next.within;
       term = next.term ∙ rw (made.left_is, made.right_is, parts.2) refl;
-      asked = last-requests ∙ next.asked;
+      asked = AreLeft-asked old last _ _ last-requests ∙ next.asked;
     }
 
 -- a term that was made by derivation is equivalent to the one that it was made of

@@ -8,10 +8,12 @@
 --   expanded u                  the term is expanded to u
 --   no_place, not_expandable    the address leads below a leaf; the part there is x or tx
 --   expansion_at address t      what the expansion of t at an address is
---   IsExpandRefusal asked e     a call that met this answer to its requests fails so
+--   IsExpandRefusal expansion asked e        a call that met this answer to its requests fails so
+--   IsExpandStopped old new requests e       a call that fails so leaves the graph so
 use Rattle.std.specs.Prelude.{◌≡◌, ℕ, ◌≤◌, ◌==◌, ◌⊎◌, if◌then◌else◌, List, [], ◌∷◌, All, length}
 use Rattle.ld_term.specs.Terms.{Term, variable, multiply}
-use Rattle.term_graph.specs.Asks.{Asked, too_deep, full}
+use Rattle.term_graph.specs.Asks.{Asked, too_deep, full, IsStopped}
+use Rattle.term_graph.specs.declared.error.GraphErr.TheVariants as graph_errors
 use Rattle.term_expand.specs.declared.TheConstants.{MAX_ADDRESS}
 use Rattle.term_expand.specs.declared.error.ExpandErr.{ExpandErr}
 use Rattle.term_expand.specs.declared.error.ExpandErr.TheVariants.{NoPlace, NotExpandable, TooDeep, Full, Memory}
@@ -60,3 +62,12 @@ IsExpandRefusal expansion asked NotExpandable = expansion ≡ not_expandable
 IsExpandRefusal expansion asked TooDeep = asked ≡ too_deep
 IsExpandRefusal expansion asked Full = asked ≡ full
 IsExpandRefusal expansion asked Memory = Unit {0}
+
+-- How an expansion that fails so leaves the graph: as it was, where the address is at fault, and else as its
+-- requests had made it where they stopped.
+abbrev pub IsExpandStopped : List Term → List Term → List Term → ExpandErr → Type 0
+IsExpandStopped old new requests NoPlace = new ≡ old
+IsExpandStopped old new requests NotExpandable = new ≡ old
+IsExpandStopped old new requests TooDeep = IsStopped old new requests graph_errors.TooDeep
+IsExpandStopped old new requests Full = IsStopped old new requests graph_errors.Full
+IsExpandStopped old new requests Memory = IsStopped old new requests graph_errors.Memory

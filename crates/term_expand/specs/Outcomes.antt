@@ -2,14 +2,14 @@
 --
 --   failure_of error                    why an expansion fails one of whose products is refused so
 --   Outcome old address t new result    the answer of an expansion of t at an address, and what the graph is then
-use Rattle.std.specs.Prelude.{◌≡◌, ℕ, ◌<◌, ◌⊎◌, List, length, Result, IfOk, IfErr, OnOk, IsErrOf}
+use Rattle.std.specs.Prelude.{◌≡◌, ℕ, ◌<◌, List, length, Result, IfOk, IfErr, OnOk, IsErrOf}
 use Rattle.ld_term.specs.Terms.{Term}
 use Rattle.term_graph.specs.TermLists.{term_at}
 use Rattle.term_graph.specs.Asks.{answered, ask_all}
 use Rattle.term_graph.specs.Requests.{IsFront}
 use Rattle.term_graph.specs.declared.error.GraphErr.{GraphErr}
 use Rattle.term_graph.specs.declared.error.GraphErr.TheVariants as graph_errors
-use Rattle.term_expand.specs.Expansions.{expanded, no_place, not_expandable, expansion_at, IsExpandRefusal}
+use Rattle.term_expand.specs.Expansions.{expanded, no_place, not_expandable, expansion_at, IsExpandRefusal, IsExpandStopped}
 use Rattle.term_expand.specs.Requests.{expand_requests}
 use Rattle.term_expand.specs.declared.error.ExpandErr.{ExpandErr}
 use Rattle.term_expand.specs.declared.error.ExpandErr.TheVariants.{NoPlace, NotExpandable, TooDeep, Full, Memory}
@@ -30,4 +30,4 @@ pub record Outcome
   pub placeless : expansion_at address t ≡ no_place → IsErrOf result NoPlace
   pub stuck : expansion_at address t ≡ not_expandable → IsErrOf result NotExpandable
   pub kept : IsFront old new
-  pub untouched : (IsErrOf result NoPlace ⊎ IsErrOf result NotExpandable) → new ≡ old
+  pub stopped : IfErr result (IsExpandStopped old new (expand_requests address t))

@@ -1,6 +1,6 @@
 ghost use Rattle.std.specs.Prelude.{◌≡◌, ◌<◌, length, IfOk, IfErr, OnOk};
 ghost use Rattle.ld_term.specs.Terms.{derived, IsEquivalent};
-ghost use Rattle.term_graph.specs.Asks.{answered, ask_all, IsRefusal};
+ghost use Rattle.term_graph.specs.Asks.{answered, ask_all, IsRefusal, IsStopped};
 ghost use Rattle.term_graph.specs.Requests.{IsFront};
 ghost use Rattle.term_graph.specs.TermLists.{term_at};
 ghost use Rattle.term_expand.specs.Memos.{requests, IsMade, IsMemo};
@@ -19,7 +19,7 @@ fn derive_by(graph: &mut TermGraph, memo: &mut Memo, node: NodeId) -> Result<Nod
     requires there { node < length graph.old }
     requires memo { IsMemo graph.old memo.old }
     ensures made { IfOk result (IsMade graph.old graph.new (Derivation node)) }
-    ensures refused { IfErr result (IsRefusal (ask_all (answered graph.old) (requests graph.old (Derivation node)))) }
+    ensures stopped { IfErr result (IsStopped graph.old graph.new (requests graph.old (Derivation node))) }
     ensures kept { IsFront graph.old graph.new }
     ensures memo { OnOk result (IsMemo graph.new memo.new) }
 {
@@ -49,6 +49,7 @@ pub fn derive(alloc: Global, graph: &mut TermGraph, node: NodeId) -> Result<Node
     ensures equivalent { IfOk result (λ n. IsEquivalent (term_at graph.old node) (term_at graph.new n)) }
     ensures asked { OnOk result (ask_all (answered graph.old) (derive_requests (term_at graph.old node)) ≡ answered graph.new) }
     ensures refused { IfErr result (IsRefusal (ask_all (answered graph.old) (derive_requests (term_at graph.old node)))) }
+    ensures stopped { IfErr result (IsStopped graph.old graph.new (derive_requests (term_at graph.old node))) }
     ensures kept { IsFront graph.old graph.new }
 {
     let mut memo = Memo::new(alloc);

@@ -1,6 +1,6 @@
 ghost use Rattle.std.specs.Prelude.{◌≡◌, ◌<◌, length, IfOk, IfErr, OnOk};
 ghost use Rattle.ld_term.specs.Terms.{multiply, distributed, IsEquivalent};
-ghost use Rattle.term_graph.specs.Asks.{answered, ask_all, IsRefusal};
+ghost use Rattle.term_graph.specs.Asks.{answered, ask_all, IsRefusal, IsStopped};
 ghost use Rattle.term_graph.specs.Requests.{IsFront};
 ghost use Rattle.term_graph.specs.TermLists.{term_at};
 ghost use Rattle.term_expand.specs.Memos.{requests, IsMade, IsMemo};
@@ -24,7 +24,7 @@ pub(crate) fn distribute_by(
     requires right { b < length graph.old }
     requires memo { IsMemo graph.old memo.old }
     ensures made { IfOk result (IsMade graph.old graph.new (Distribution a b)) }
-    ensures refused { IfErr result (IsRefusal (ask_all (answered graph.old) (requests graph.old (Distribution a b)))) }
+    ensures stopped { IfErr result (IsStopped graph.old graph.new (requests graph.old (Distribution a b))) }
     ensures kept { IsFront graph.old graph.new }
     ensures memo { OnOk result (IsMemo graph.new memo.new) }
 {
@@ -60,6 +60,7 @@ pub fn distribute(
     ensures equivalent { IfOk result (λ n. IsEquivalent (multiply (term_at graph.old a) (term_at graph.old b)) (term_at graph.new n)) }
     ensures asked { OnOk result (ask_all (answered graph.old) (distribute_requests (term_at graph.old a) (term_at graph.old b)) ≡ answered graph.new) }
     ensures refused { IfErr result (IsRefusal (ask_all (answered graph.old) (distribute_requests (term_at graph.old a) (term_at graph.old b)))) }
+    ensures stopped { IfErr result (IsStopped graph.old graph.new (distribute_requests (term_at graph.old a) (term_at graph.old b))) }
     ensures kept { IsFront graph.old graph.new }
 {
     let mut memo = Memo::new(alloc);

@@ -1,9 +1,9 @@
-ghost use Rattle.std.specs.Prelude.{◌≡◌, ◌<◌, ◌⊎◌, [], length, IfOk, IfErr, OnOk, IsErrOf};
+ghost use Rattle.std.specs.Prelude.{◌≡◌, ◌<◌, [], length, IfOk, IfErr, OnOk, IsErrOf};
 ghost use Rattle.ld_term.specs.Terms.{Expands};
 ghost use Rattle.term_graph.specs.TermLists.{term_at};
 ghost use Rattle.term_graph.specs.Asks.{answered, ask_all};
 ghost use Rattle.term_graph.specs.Requests.{IsFront};
-ghost use Rattle.term_expand.specs.Expansions.{IsAddress, expanded, no_place, not_expandable, expansion_at, IsExpandRefusal};
+ghost use Rattle.term_expand.specs.Expansions.{IsAddress, expanded, no_place, not_expandable, expansion_at, IsExpandRefusal, IsExpandStopped};
 ghost use Rattle.term_expand.specs.Requests.{expand_requests};
 ghost use Rattle.term_expand.specs.Outcomes.{Outcome};
 
@@ -52,8 +52,8 @@ fn expand_at(graph: &mut TermGraph, node: NodeId, address: &[u8]) -> Result<Node
 ///
 /// The expansion asks for the products t*u, t*v and (t*u)*(t*v), and then for those above them up to the whole
 /// term, a part's product first; what the term shares with others stays as it is. After a refusal the products
-/// that were made stay. The place is found before any request. Only new products need memory, which the graph
-/// takes from its own allocator, so `alloc` isn't used.
+/// that were made stay. The place is found before any request, so that a fault of the address leaves the graph
+/// as it was. Only new products need memory, which the graph takes from its own allocator, so `alloc` isn't used.
 pub fn expand(
     alloc: Global,
     graph: &mut TermGraph,
@@ -69,10 +69,8 @@ pub fn expand(
     ensures refused { IfErr result (IsExpandRefusal (expansion_at address.now (term_at graph.old node)) (ask_all (answered graph.old) (expand_requests address.now (term_at graph.old node)))) }
     ensures no_place { expansion_at address.now (term_at graph.old node) ≡ no_place → IsErrOf result ExpandErr.NoPlace }
     ensures not_expandable { expansion_at address.now (term_at graph.old node) ≡ not_expandable → IsErrOf result ExpandErr.NotExpandable }
+    ensures stopped { IfErr result (IsExpandStopped graph.old graph.new (expand_requests address.now (term_at graph.old node))) }
     ensures kept { IsFront graph.old graph.new }
-
-    // The address's faults come before any request.
-    ensures untouched { (IsErrOf result ExpandErr.NoPlace ⊎ IsErrOf result ExpandErr.NotExpandable) → graph.new ≡ graph.old }
 {
     expand_at(graph, node, address)
 }

@@ -9,6 +9,7 @@ pub mod EntryLemmas
 pub mod NameListLemmas
 pub mod FaultLemmas
 pub mod FileLemmas
+pub mod StopLemmas
 pub mod RequestLemmas
 pub mod ReadingLemmas
 pub mod LineReadLemmas

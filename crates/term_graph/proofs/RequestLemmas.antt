@@ -1,5 +1,5 @@
 -- The products that a term with names asks for, one after the other.
-use Rattle.std.proofs.Common.{◌≡◌, ℕ, ◌+◌, ◌<◌, Bool, true, false, cond, List, [], ◌∷◌, ◌++◌, length, All, ◌||◌, Some, None, is_some, Result, Ok, Err, OnOk, OnErr, refl, sym, ap, ◌∙◌, subst, append_assoc, append-nil, arith}
+use Rattle.std.proofs.Common.{◌≡◌, ℕ, ◌+◌, ◌<◌, Bool, true, false, cond, List, [], ◌∷◌, ◌++◌, length, All, map, ◌||◌, Some, None, is_some, Result, Ok, Err, OnOk, OnErr, refl, sym, ap, ◌∙◌, subst, append_assoc, append-nil, arith}
 use Rattle.std.specs.List.{AllByRecursion}
 use Rattle.std.specs.Map.{keys_of, lookup}
 use Rattle.std.specs.Option.{unwrap_or}
@@ -10,12 +10,13 @@ use Rattle.std.proofs.lemmas.Option.{none-some}
 use Rattle.ld_term.specs.Terms.{Term, variable, multiply}
 use Rattle.ld_term.specs.Written.{Written, named, times}
 use Rattle.term_graph.specs.TermLists.{term_at}
-use Rattle.term_graph.specs.Asks.{Asked, answered, ask, ask_all, IsRefusal}
+use Rattle.term_graph.specs.Asks.{answered, ask, ask_all, IsStopped}
+use Rattle.term_graph.specs.Listings.{distinct_products, IsListing}
 use Rattle.term_graph.specs.NameLists.{number_of}
 use Rattle.term_graph.specs.Requests.{is_known, first_unknown, meaning, text_requests, named_terms, IsFront}
 use Rattle.term_graph.specs.declared.error.GraphErr.{GraphErr}
-use Rattle.term_graph.specs.declared.error.GraphErr.TheVariants.{TooDeep, Full, Memory}
-use Rattle.term_graph.proofs.AskLemmas.{ask-extends, ask_all-deep, ask_all-full, ask_all-append}
+use Rattle.term_graph.proofs.AskLemmas.{ask-extends}
+use Rattle.term_graph.proofs.StopLemmas.{IsStopped-first, AreLeft, AreLeft-stopped, AreLeft-granted, AreLeft-more}
 
 -- ---- Fronts ----
 
@@ -37,6 +38,33 @@ length-front old new n (more, is) below =
 -- a number of a front stands for its term
 pub term_at-front : (old new : List Term) (n : ℕ) → IsFront old new → n < length old → term_at new n ≡ term_at old n
 term_at-front old new n (more, is) below = ap (λ z. term_at z n) is ∙ get_or_append_left old more variable n below
+
+-- so do the numbers of a list
+terms-front
+    : (old new : List Term) (numbers : List ℕ)
+    → IsFront old new
+    → AllByRecursion (λ n. n < length old) numbers
+    → map (term_at new) numbers ≡ map (term_at old) numbers
+terms-front old new [] front within = refl
+terms-front old new (n ∷ numbers) front within =
+    let here : term_at new n ≡ term_at old n = term_at-front old new n front within.0 in
+    let rest : map (term_at new) numbers ≡ map (term_at old) numbers = terms-front old new numbers front within.1 in
+    rw (here, rest) refl
+
+-- a listing stays one
+pub IsListing-front
+    : (old new : List Term) (root : ℕ) (numbers : List ℕ)
+    → IsFront old new
+    → IsListing old root numbers
+    → IsListing new root numbers
+IsListing-front old new root numbers front listing = record {
+  root_within = length-front old new root front listing.root_within;
+  within = λ k d within. length-front old new _ front (listing.within k d within);
+  terms =
+      terms-front old new numbers front (recursion_from_All (λ (n : ℕ). n < length old) numbers listing.within)
+      ∙ listing.terms
+      ∙ ap distinct_products (sym (term_at-front old new root front listing.root_within));
+}
 
 -- ---- Names ----
 
@@ -156,26 +184,6 @@ number-meaning made names w name place n is within found = (
 
 -- ---- Requests ----
 
--- a refusal of the first requests is one of them all
-pub IsRefusal-first
-    : (asked : Asked) (first second : List Term) (e : GraphErr)
-    → IsRefusal (ask_all asked first) e
-    → IsRefusal (ask_all asked (first ++ second)) e
-IsRefusal-first asked first second TooDeep is =
-    ask_all-append asked first second ∙ ap (λ z. ask_all z second) is ∙ ask_all-deep second
-IsRefusal-first asked first second Full is =
-    ask_all-append asked first second ∙ ap (λ z. ask_all z second) is ∙ ask_all-full second
-IsRefusal-first asked first second Memory is = tt
-
--- a refusal of the second requests, where the first are granted
-pub IsRefusal-second
-    : (old mid first second : List Term) (e : GraphErr)
-    → ask_all (answered old) first ≡ answered mid
-    → IsRefusal (ask_all (answered mid) second) e
-    → IsRefusal (ask_all (answered old) (first ++ second)) e
-IsRefusal-second old mid first second e granted is =
-    subst (λ z. IsRefusal z e) (sym (ask_all-append (answered old) first second ∙ ap (λ z. ask_all z second) granted)) is
-
 -- a request that is granted adds to the graph
 pub IsFront-ask : (old new : List Term) (t : Term) → ask old t ≡ answered new → IsFront old new
 IsFront-ask old new t is =
@@ -192,15 +200,15 @@ IsFront-product old new t (Err e) asked same = subst (IsFront old) (sym same) (I
 
 -- ---- Products ----
 
--- the left part is refused
-pub left-refused
-    : (old : List Term) (terms : List (List ℕ × Term)) (w a b : Written) (e : GraphErr)
+-- the requests stop in the left part
+pub left-stopped
+    : (old new : List Term) (terms : List (List ℕ × Term)) (w a b : Written) (e : GraphErr)
     → w ≡ times a b
-    → IsRefusal (ask_all (answered old) (text_requests terms a)) e
-    → IsRefusal (ask_all (answered old) (text_requests terms w)) e
-left-refused old terms w a b e is refused =
-    subst (λ z. IsRefusal (ask_all (answered old) (text_requests terms z)) e) (sym is)
-    (IsRefusal-first (answered old) (text_requests terms a) _ e refused)
+    → IsStopped old new (text_requests terms a) e
+    → IsStopped old new (text_requests terms w) e
+left-stopped old new terms w a b e is stop =
+    subst (λ z. IsStopped old new (text_requests terms z) e) (sym is)
+    (IsStopped-first old new (text_requests terms a) _ e stop)
 
 -- What a call has done behind the left part of a product.
 pub record IsLeftDone (old mid : List Term) (names : List (List ℕ × ℕ)) (a : Written) (left : ℕ) : Type 0 where
@@ -210,25 +218,26 @@ pub record IsLeftDone (old mid : List Term) (names : List (List ℕ × ℕ)) (a 
   pub asked : ask_all (answered old) (text_requests (named_terms old names) a) ≡ answered mid
   pub kept : IsFront old mid
 
--- the right part is refused
-pub right-refused
-    : (old mid : List Term) (names : List (List ℕ × ℕ)) (w a b : Written) (left : ℕ) (e : GraphErr)
+-- the requests stop in the right part
+pub right-stopped
+    : (old mid new : List Term) (names : List (List ℕ × ℕ)) (w a b : Written) (left : ℕ) (e : GraphErr)
     → w ≡ times a b
     → IsLeftDone old mid names a left
-    → IsRefusal (ask_all (answered mid) (text_requests (named_terms mid names) b)) e
-    → IsRefusal (ask_all (answered old) (text_requests (named_terms old names) w)) e
-right-refused old mid names w a b left e is done refused =
+    → IsStopped mid new (text_requests (named_terms mid names) b) e
+    → IsStopped old new (text_requests (named_terms old names) w) e
+right-stopped old mid new names w a b left e is done stop =
     let terms = named_terms old names in
     let same : named_terms mid names ≡ terms = named_terms-front old mid names done.kept done.numbers in
-    subst (λ z. IsRefusal (ask_all (answered old) (text_requests terms z)) e) (sym is)
-    (IsRefusal-second old mid (text_requests terms a) _ e done.asked
-    (IsRefusal-first (answered mid) (text_requests terms b) _ e (subst (λ z. IsRefusal (ask_all (answered mid) (text_requests z b)) e) same refused)))
+    let left = AreLeft-granted old mid (text_requests terms a) _ done.asked in
+    subst (λ z. IsStopped old new (text_requests terms z) e) (sym is)
+    (AreLeft-stopped old mid new _ _ e left
+    (IsStopped-first mid new (text_requests terms b) _ e (subst (λ z. IsStopped mid new (text_requests z b) e) same stop)))
 
 -- What a call has done behind both parts of a product.
 pub record ArePartsDone (old last : List Term) (terms : List (List ℕ × Term)) (w : Written) (left right : ℕ) : Type 0 where
   pub left_within : left < length last
   pub number : meaning terms w ≡ multiply (term_at last left) (term_at last right)
-  pub asked : ask_all (answered old) (text_requests terms w) ≡ ask last (multiply (term_at last left) (term_at last right))
+  pub due : AreLeft old last (text_requests terms w) (multiply (term_at last left) (term_at last right) ∷ [])
   pub kept : IsFront old last
 
 -- behind both parts only the product is asked for
@@ -251,19 +260,10 @@ parts-done old mid last names w a b left right is done number granted front =
     record {
       left_within = length-front mid last left front done.within;
       number = ap (meaning terms) is ∙ product;
-      asked =
-          ap (λ z. ask_all (answered old) (text_requests terms z)) is
-          ∙ ask_all-append (answered old) (text_requests terms a) (text_requests terms b ++ (multiply (meaning terms a) (meaning terms b) ∷ []))
-          ∙ ap (λ z. ask_all z (text_requests terms b ++ (multiply (meaning terms a) (meaning terms b) ∷ []))) done.asked
-          ∙ ask_all-append (answered mid) (text_requests terms b) (multiply (meaning terms a) (meaning terms b) ∷ [])
-          ∙ ap (λ z. ask_all z (multiply (meaning terms a) (meaning terms b) ∷ [])) second
-          ∙ one_request last (multiply (meaning terms a) (meaning terms b))
-          ∙ ap (ask last) product;
+      due =
+          subst (λ z. AreLeft old last z (multiply (term_at last left) (term_at last right) ∷ [])) (sym (ap (text_requests terms) is))
+          (subst (λ z. AreLeft old last (text_requests terms (times a b)) (z ∷ [])) product
+          (AreLeft-more old mid last (text_requests terms (times a b)) (text_requests terms b) _
+          (AreLeft-granted old mid (text_requests terms a) _ done.asked) second));
       kept = IsFront-trans old mid last done.kept front;
     }
-  where
-    one_request : (terms : List Term) (t : Term) → ask_all (answered terms) (t ∷ []) ≡ ask terms t
-    one_request terms t = by_answer (ask terms t)
-      where
-        by_answer : (asked : Asked) → ask_all asked [] ≡ asked
-        by_answer asked = refl

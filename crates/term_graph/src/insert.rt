@@ -2,7 +2,7 @@ ghost use Rattle.std.specs.Prelude.{◌≡◌, ◌<◌, length, All, None, IfOk,
 ghost use Rattle.std.specs.Map.{keys_of};
 ghost use Rattle.ld_term.specs.TreeTexts.{written};
 ghost use Rattle.term_graph.specs.TermLists.{term_at};
-ghost use Rattle.term_graph.specs.Asks.{answered, ask_all, IsRefusal};
+ghost use Rattle.term_graph.specs.Asks.{answered, ask_all, IsRefusal, IsStopped};
 ghost use Rattle.term_graph.specs.Requests.{first_unknown, meaning, text_requests, named_terms, IsFront};
 
 use crate::error::GraphErr;
@@ -21,6 +21,7 @@ impl TermGraph {
         ensures number { IfOk result (λ n. (n < length self.new) × (term_at self.new n ≡ meaning (named_terms self.old names.now) (written term.now))) }
         ensures asked { OnOk result (ask_all (answered self.old) (text_requests (named_terms self.old names.now) (written term.now)) ≡ answered self.new) }
         ensures refused { IfErr result (IsRefusal (ask_all (answered self.old) (text_requests (named_terms self.old names.now) (written term.now)))) }
+        ensures stopped { IfErr result (IsStopped self.old self.new (text_requests (named_terms self.old names.now) (written term.now))) }
         ensures kept { IsFront self.old self.new }
     {
         match term {

@@ -24,7 +24,7 @@ pub use error::{GraphErr, NameErr};
 pub use file_error::DefsErr;
 pub use file_law::law_one_file;
 pub use graph::TermGraph;
-pub use laws::law_requests;
+pub use laws::{law_growth, law_requests};
 pub use listing::{Listing, put_listing};
 pub use listing_law::law_listing;
 pub use names::Names;

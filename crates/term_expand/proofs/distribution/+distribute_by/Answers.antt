@@ -1,10 +1,11 @@
 -- The distribution over a product is made of those over its parts.
 use Rattle.std.proofs.Common.{ℕ, Ok}
 use Rattle.std.proofs.lemmas.Result.{err_from_is_err_and}
+use Rattle.term_graph.proofs.StopLemmas.{IsStopped-memory}
 use Rattle.term_expand.specs.Memos.{IsMade}
 use Rattle.term_expand.specs.declared.memo.Work.TheVariants.{Distribution}
 use Rattle.term_expand.proofs.MemoLemmas.{IsMemo-product, IsMade-answer, IsAnswer-made}
-use Rattle.term_expand.proofs.WorkLemmas.{first-refused, second-refused, parts-made, distribution-begins, product-refused, product-made}
+use Rattle.term_expand.proofs.WorkLemmas.{first-stopped, second-stopped, parts-made, distribution-begins, last-stopped, product-made}
 use Rattle.term_expand.proofs.distribution.+distribute_by.Goals as goal
 
 pub returns-in_default-clause-memo : goal.returns-in_default-clause-memo
@@ -15,24 +16,33 @@ pub returns-in-Some-find-clause-made : goal.returns-in-Some-find-clause-made
 returns-in-Some-find-clause-made t c =
     IsAnswer-made _ _ _ (rw (c.index.ensures, c.index-2.ensures) at (c.in-Some-find.ensures c.args.graph.now c.requires.memo))
 
-pub returns-in_err-left-clause-refused : goal.returns-in_err-left-clause-refused
-returns-in_err-left-clause-refused t c =
+pub returns-in_err-left-clause-stopped : goal.returns-in_err-left-clause-stopped
+returns-in_err-left-clause-stopped t c =
     let (e, is, same) = err_from_is_err_and c.from_residual.result c.from_residual.ensures.1 in
     let begins = distribution-begins _ _ _ _ _ c.requires.left c.requires.right c.in-Some.ensures in
-    rw (is, same) (first-refused _ _ _ _ _ begins _ c.in_err-left.ensures.refused)
+    rw (is, same) (first-stopped _ _ _ _ _ begins _ _ c.in_err-left.ensures.stopped)
 
-pub returns-in_err-right-clause-refused : goal.returns-in_err-right-clause-refused
-returns-in_err-right-clause-refused t c =
+pub returns-in_err-right-clause-stopped : goal.returns-in_err-right-clause-stopped
+returns-in_err-right-clause-stopped t c =
     let (e, is, same) = err_from_is_err_and c.from_residual-in_err-right.result c.from_residual-in_err-right.ensures.1 in
     let begins = distribution-begins _ _ _ _ _ c.requires.left c.requires.right c.in-Some.ensures in
-    rw (is, same) (second-refused _ _ _ _ _ begins _ _ c.in_ok-left.ensures.made _ c.in_err-right.ensures.refused)
+    rw (is, same) (second-stopped _ _ _ _ _ begins _ _ c.in_ok-left.ensures.made _ _ c.in_err-right.ensures.stopped)
 
-pub returns-in_err-number-clause-refused : goal.returns-in_err-number-clause-refused
-returns-in_err-number-clause-refused t c =
+pub returns-in_err-number-clause-stopped : goal.returns-in_err-number-clause-stopped
+returns-in_err-number-clause-stopped t c =
     let (e, is, same) = err_from_is_err_and c.from_residual-in_err-number.result c.from_residual-in_err-number.ensures.1 in
     let begins = distribution-begins _ _ _ _ _ c.requires.left c.requires.right c.in-Some.ensures in
     let parts = parts-made _ _ _ _ _ begins _ _ c.in_ok-left.ensures.made _ _ c.in_ok-right.ensures.made in
-    rw (is, same) (product-refused _ _ _ _ _ c.requires.left c.requires.right c.in-Some.ensures _ _ _ parts _ c.in_err-number.ensures.refused)
+    rw (is, same) (last-stopped _ _ _ _ _ c.requires.left c.requires.right c.in-Some.ensures _ _ _ parts _ _ c.in_err-number.ensures.refused c.in_err-number.ensures.unchanged)
+
+pub returns-in_err-remember-clause-stopped : goal.returns-in_err-remember-clause-stopped
+returns-in_err-remember-clause-stopped t c =
+    let (e, is, same) = err_from_is_err_and c.from_residual-in_err-remember.result c.from_residual-in_err-remember.ensures.1 in
+    let begins = distribution-begins _ _ _ _ _ c.requires.left c.requires.right c.in-Some.ensures in
+    let parts = parts-made _ _ _ _ _ begins _ _ c.in_ok-left.ensures.made _ _ c.in_ok-right.ensures.made in
+    let number = c.in_ok-number.ensures.number in
+    let done = product-made _ _ _ _ _ c.requires.left c.requires.right c.in-Some.ensures _ _ _ parts _ _ number.0 number.1 c.in_ok-number.ensures.asked in
+    rw (is, same) (IsStopped-memory _ _ _ done.asked)
 
 -- the distribution is made
 made

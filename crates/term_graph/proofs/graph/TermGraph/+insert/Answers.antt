@@ -5,22 +5,25 @@ use Rattle.ld_term.specs.Terms.{multiply}
 use Rattle.ld_term.specs.TreeTexts.{written}
 use Rattle.term_graph.specs.TermLists.{term_at}
 use Rattle.term_graph.specs.Requests.{named_terms}
-use Rattle.term_graph.proofs.RequestLemmas.{known-number, number-meaning, left-refused, IsLeftDone, right-refused, ArePartsDone, parts-done, IsFront-product, IsFront-trans}
+use Rattle.term_graph.proofs.StopLemmas.{AreLeft-one, product-stopped, IfErr-refusal}
+use Rattle.term_graph.proofs.RequestLemmas.{known-number, number-meaning, left-stopped, IsLeftDone, right-stopped, ArePartsDone, parts-done, IsFront-product, IsFront-trans}
 use Rattle.term_graph.proofs.graph.TermGraph.+insert.Goals as goal
 
 pub unreachable-requires : goal.unreachable-requires
 unreachable-requires t c =
     known-number _ _ _ _ (ap written c.in-Named.is) c.requires.known (sym c.find.ensures ∙ c.in_default.is)
 
-pub returns-in_err-left-in-Product-clause-refused :
-    goal.returns-in_err-left-in-Product-clause-refused
-returns-in_err-left-in-Product-clause-refused t c =
+pub returns-in_err-left-in-Product-clause-stopped : goal.returns-in_err-left-in-Product-clause-stopped
+returns-in_err-left-in-Product-clause-stopped t c =
     let (e, is, same) = err_from_is_err_and c.from_residual.result c.from_residual.ensures.1 in
-    rw (is, same) (left-refused _ _ _ _ _ _ (ap written c.in-Product.is) (rw c.deref.ensures at c.in_err-left-in-Product.ensures.refused))
+    rw (is, same) (left-stopped _ _ _ _ _ _ _ (ap written c.in-Product.is) (rw c.deref.ensures at c.in_err-left-in-Product.ensures.stopped))
 
-pub returns-in_err-right-in-Product-clause-refused :
-    goal.returns-in_err-right-in-Product-clause-refused
-returns-in_err-right-in-Product-clause-refused t c =
+pub returns-in_err-left-in-Product-clause-refused : goal.returns-in_err-left-in-Product-clause-refused
+returns-in_err-left-in-Product-clause-refused t c =
+    IfErr-refusal _ _ _ _ (returns-in_err-left-in-Product-clause-stopped t c)
+
+pub returns-in_err-right-in-Product-clause-stopped : goal.returns-in_err-right-in-Product-clause-stopped
+returns-in_err-right-in-Product-clause-stopped t c =
     let (e, is, same) = err_from_is_err_and c.from_residual-in_err-right-in-Product.result c.from_residual-in_err-right-in-Product.ensures.1 in
     let left = c.in_ok-left-in-Product.ensures in
     let part = c.deref.ensures in
@@ -31,8 +34,12 @@ returns-in_err-right-in-Product-clause-refused t c =
       asked = rw part at left.asked;
       kept = c.insert.ensures.kept;
     } in
-    rw (is, same) (right-refused _ _ _ _ _ _ _ _ (ap written c.in-Product.is) done
-    (rw c.deref-in-Product.ensures at c.in_err-right-in-Product.ensures.refused))
+    rw (is, same) (right-stopped _ _ _ _ _ _ _ _ _ (ap written c.in-Product.is) done
+    (rw c.deref-in-Product.ensures at c.in_err-right-in-Product.ensures.stopped))
+
+pub returns-in_err-right-in-Product-clause-refused : goal.returns-in_err-right-in-Product-clause-refused
+returns-in_err-right-in-Product-clause-refused t c =
+    IfErr-refusal _ _ _ _ (returns-in_err-right-in-Product-clause-stopped t c)
 
 pub returns-in-Some-clause-number : goal.returns-in-Some-clause-number
 returns-in-Some-clause-number t c =
@@ -63,12 +70,15 @@ returns-in_ok-right-in-Product-clause-number t c =
 
 pub returns-in_ok-right-in-Product-clause-asked : goal.returns-in_ok-right-in-Product-clause-asked
 returns-in_ok-right-in-Product-clause-asked t c =
-    rw (parts t c).asked c.product.ensures.asked
+    rw (AreLeft-one _ _ _ _ (parts t c).due) c.product.ensures.asked
 
-pub returns-in_ok-right-in-Product-clause-refused :
-    goal.returns-in_ok-right-in-Product-clause-refused
+pub returns-in_ok-right-in-Product-clause-refused : goal.returns-in_ok-right-in-Product-clause-refused
 returns-in_ok-right-in-Product-clause-refused t c =
-    rw (parts t c).asked c.product.ensures.refused
+    rw (AreLeft-one _ _ _ _ (parts t c).due) c.product.ensures.refused
+
+pub returns-in_ok-right-in-Product-clause-stopped : goal.returns-in_ok-right-in-Product-clause-stopped
+returns-in_ok-right-in-Product-clause-stopped t c =
+    product-stopped _ _ _ _ _ _ (parts t c).due c.product.ensures.refused c.product.ensures.unchanged
 
 pub returns-in_ok-right-in-Product-clause-kept : goal.returns-in_ok-right-in-Product-clause-kept
 returns-in_ok-right-in-Product-clause-kept t c =
