@@ -1,7 +1,6 @@
 -- What is read of one line: what it says, or its fault.
-use Rattle.std.proofs.Common.{◌≡◌, ℕ, suc, ◌+◌, ◌≤◌, ◌⊎◌, inl, inr, Bool, true, false, cond, nat_lt, nat_eq, List, [], ◌∷◌, length, Some, None, is_some, refl, ap, ◌∙◌, arith}
+use Rattle.std.proofs.Common.{◌≡◌, ℕ, ◌+◌, ◌≤◌, ◌⊎◌, inl, inr, Bool, true, false, cond, nat_lt, List, [], ◌∷◌, length, Some, None, is_some, refl, ap, ◌∙◌, arith}
 use Rattle.std.specs.Map.{keys_of}
-use Rattle.std.specs.List.{onto_first}
 use Rattle.std.proofs.lemmas.Bool.{lt-ltb, le-ltb}
 use Rattle.ld_term.specs.Written.{Written, written_height, written_products}
 use Rattle.ld_term.specs.Tokens.{Token}
@@ -10,7 +9,6 @@ use Rattle.ld_term.specs.Refusals.{IsSmall, IsTooDeep, IsTooLarge, IsRefused}
 use Rattle.ld_term.specs.declared.TheConstants.{MAX_HEIGHT, MAX_PRODUCTS}
 use Rattle.ld_term.specs.declared.term_err.TermErr.{TermErr}
 use Rattle.ld_term.specs.declared.term_err.TermErr.TheVariants as term_errors
-use Rattle.wb_base.specs.Lines.{lines_of}
 use Rattle.term_graph.specs.NameLists.{number_of}
 use Rattle.term_graph.specs.Requests.{is_known, first_unknown}
 use Rattle.term_graph.specs.TermFiles.{Line, definition, closing, line_term, Due, IsLineText, line_tokens, Says, size_fault, twice_fault, IsLineFault, unread, faulty, IsSound}
@@ -143,20 +141,3 @@ term-refused k names bytes (term_errors.TooDeep height) (t, text, deep) =
 term-refused k names bytes (term_errors.TooMany products) (t, text, large) =
     inr (line-many k names (record { defines = false; bytes = bytes }) (closing t) text products large)
 term-refused k names bytes term_errors.Memory is = inl refl
-
--- ---- Lines ----
-
--- there are no more lines than bytes
-pub lines-few : (bytes : List ℕ) → length (lines_of bytes) ≤ length bytes
-lines-few [] = omega arith
-lines-few (byte ∷ bytes) = by_test (nat_eq byte 10) (lines-few bytes)
-  where
-    first : (lines : List (List ℕ)) → length (onto_first byte lines) ≤ length lines + 1
-    first [] = omega arith
-    first (line ∷ lines) = omega arith
-
-    by_test : (b : Bool)
-        → length (lines_of bytes) ≤ length bytes
-        → length (cond b ([] ∷ lines_of bytes) (onto_first byte (lines_of bytes))) ≤ suc (length bytes)
-    by_test true few = omega (arith, few)
-    by_test false few = omega (arith, few, first (lines_of bytes))

@@ -16,7 +16,7 @@ use crate::names::Names;
 use crate::node::NodeId;
 use ld_term::{Definition, TermErr, Tree, read_definition, read_term};
 use std::alloc::{AllocError, Global};
-use wb_base::lines;
+use wb_base::{count_lines, lines};
 
 /// The terms of a term file, in a graph of their own.
 #[derive(Drop)]
@@ -194,13 +194,6 @@ impl Reading {
             Some(Limit::Nodes) => Err(DefsErr::Nodes),
         }
     }
-}
-
-// How many lines there are.
-fn count_lines(bytes: &[u8]) -> usize
-    ensures { result ≡ length (lines_of bytes.now) }
-{
-    lines(bytes).count()
 }
 
 /// The terms of a file of definitions and then one or two terms, as many as are asked for.

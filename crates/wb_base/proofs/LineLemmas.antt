@@ -1,7 +1,8 @@
 -- Laws of the lines of a text.
 --
--- Texts without LF that stand as lines one after the other are its lines (`lines_of-flat_map`).
-use Rattle.std.proofs.Common.{◌≡◌, ◌≢◌, ℕ, suc, zero, ◌<◌, List, [], ◌∷◌, ◌++◌, length, get_or, take, drop, ap, refl, ◌∙◌, arith}
+-- Texts without LF that stand as lines one after the other are its lines (`lines_of-flat_map`). There are no more
+-- lines than bytes (`length-lines_of`).
+use Rattle.std.proofs.Common.{◌≡◌, ◌≢◌, ℕ, suc, zero, ◌+◌, ◌<◌, ◌≤◌, Bool, true, false, cond, nat_eq, List, [], ◌∷◌, ◌++◌, length, get_or, take, drop, ap, refl, ◌∙◌, arith}
 use Rattle.std.specs.List.{AllByRecursion, flat_map, onto_first}
 use Rattle.std.proofs.lemmas.Bool.{ne_eqb}
 use Rattle.wb_base.specs.Lines.{lines_of, line}
@@ -58,3 +59,20 @@ lines_of-flat_map [] none = refl
 lines_of-flat_map (text ∷ texts) none =
     lines_of-line text (flat_map line texts) none.0
     ∙ ap (λ more. text ∷ more) (lines_of-flat_map texts none.1)
+
+-- ---- Their number ----
+
+-- there are no more lines than bytes
+pub length-lines_of : (bytes : List ℕ) → length (lines_of bytes) ≤ length bytes
+length-lines_of [] = omega arith
+length-lines_of (byte ∷ bytes) = by_test (nat_eq byte 10) (length-lines_of bytes)
+  where
+    first : (lines : List (List ℕ)) → length (onto_first byte lines) ≤ length lines + 1
+    first [] = omega arith
+    first (line ∷ lines) = omega arith
+
+    by_test : (b : Bool)
+        → length (lines_of bytes) ≤ length bytes
+        → length (cond b ([] ∷ lines_of bytes) (onto_first byte (lines_of bytes))) ≤ suc (length bytes)
+    by_test true few = omega (arith, few)
+    by_test false few = omega (arith, few, first (lines_of bytes))

@@ -12,7 +12,7 @@ mod stream;
 mod text;
 mod whole;
 
-pub use line_iter::{LineIter, lines};
+pub use line_iter::{LineIter, count_lines, lines};
 pub use memory::{MemSink, MemSource, SureSource};
 pub use name::Name;
 pub use number::{is_canonical, put_number, put_signed, read_number};

@@ -58,3 +58,10 @@ pub fn lines(bytes: &[u8]) -> LineIter<'_>
 {
     LineIter { rest: bytes }
 }
+
+/// How many lines some bytes have.
+pub fn count_lines(bytes: &[u8]) -> usize
+    ensures { result ≡ length (lines_of bytes.now) }
+{
+    lines(bytes).count()
+}

@@ -3,7 +3,7 @@ ghost use Rattle.std.specs.Prelude.{◌≡◌, ◌<◌, ◌↔◌, IsTrue};
 
 use crate::{
     MemSink, MemSource, Name, ReadErr, Sink, Status, StdSink, StdSource, Steps, SureSource,
-    give_all, is_canonical, lines, put_number, read_all, read_number,
+    count_lines, give_all, is_canonical, lines, put_number, read_all, read_number,
 };
 use std::alloc::{AllocError, Global};
 use std::io::{Error, ErrorKind, Read, Result as IoResult, Write};
@@ -43,21 +43,22 @@ fn a_number_is_put_as_its_decimal_text(rt: HostRuntime) -> Result<(), Fail> {
 
 #[test]
 fn a_line_ends_at_lf_and_the_last_at_the_end(rt: HostRuntime) -> Result<(), Fail> {
-    let cases: [(&[u8], &[u8]); 6] = [
-        (b"a\n\nb", b"a||b|"),
-        (b"", b""),
-        (b"\n", b"|"),
-        (b"a", b"a|"),
-        (b"a\n", b"a|"),
-        (b"\n\nab", b"||ab|"),
+    let cases: [(&[u8], &[u8], usize); 6] = [
+        (b"a\n\nb", b"a||b|", 3),
+        (b"", b"", 0),
+        (b"\n", b"|", 1),
+        (b"a", b"a|", 1),
+        (b"a\n", b"a|", 1),
+        (b"\n\nab", b"||ab|", 3),
     ];
-    for (bytes, want) in cases {
+    for (bytes, want, count) in cases {
         let mut barred = Vec::new(rt.alloc());
         for line in lines(bytes) {
             barred.extend_from_slice(line)?;
             barred.push(b'|')?;
         }
         assert_eq!(rt; barred.as_slice(), want, "at {bytes:?}");
+        assert_eq!(rt; count_lines(bytes), count, "at {bytes:?}");
     }
     Ok(())
 }

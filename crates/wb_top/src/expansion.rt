@@ -15,7 +15,7 @@ use std::alloc::{AllocError, Global};
 use std::marker::Model;
 use term_expand::{ExpandErr, derive, expand};
 use term_graph::{GraphErr, Listing, NodeId, TermGraph, put_listing, read_terms};
-use wb_base::{Failed, Sink, Status, lines};
+use wb_base::{Failed, Sink, Status, count_lines};
 
 /// A term of a graph, with its listing.
 #[derive(Drop)]
@@ -82,13 +82,6 @@ fn expand_term(
     }
 }
 
-// How many lines there are.
-fn count_lines(bytes: &[u8]) -> u64
-    ensures { result ≡ length (lines_of bytes.now) }
-{
-    lines(bytes).count() as u64
-}
-
 /// The listing of the term of an input that is expanded at an address.
 pub(crate) fn expand_input(
     alloc: Global,
@@ -100,7 +93,7 @@ pub(crate) fn expand_input(
     ensures known { IfOk result (λ outcome. (answer_of outcome).status ≢ Status.Words) }
 {
     match read_terms(alloc, input, 1) {
-        Ok(file) => expand_term(alloc, file.graph, file.first, address, count_lines(input)),
+        Ok(file) => expand_term(alloc, file.graph, file.first, address, count_lines(input) as u64),
         Err(error) => refuse(error),
     }
 }
