@@ -11,8 +11,7 @@ use Rattle.std.proofs.lemmas.List.Folds.{list_any-append}
 use Rattle.ld_term.specs.Terms.{Term, multiply}
 use Rattle.term_graph.specs.TermLists.{term_at, IsGraph}
 use Rattle.term_graph.specs.Asks.{same_term, has_term}
-use Rattle.term_graph.specs.Listings.{products, add_new, distinct_products}
-use Rattle.term_graph.specs.Places.{IsClosed}
+use Rattle.term_graph.specs.Listings.{IsClosed, products, add_new, distinct_products}
 use Rattle.term_graph.proofs.AskLemmas.{same_term-self, same_term-true}
 use Rattle.term_graph.proofs.ListingLemmas.{IsClosed-nil, IsClosed-add_new, add_new-listed, add_new-product}
 use Rattle.term_eval.specs.Values.{value_of}

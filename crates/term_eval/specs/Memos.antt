@@ -6,7 +6,7 @@ use Rattle.std.specs.Prelude.{◌≡◌, ℕ, ◌<◌, ◌≤◌, nat_lt, List, 
 use Rattle.ld_term.specs.Terms.{Term}
 use Rattle.term_graph.specs.TermLists.{term_at}
 use Rattle.term_graph.specs.Asks.{has_term}
-use Rattle.term_graph.specs.Places.{IsClosed}
+use Rattle.term_graph.specs.Listings.{IsClosed}
 use Rattle.term_eval.specs.Values.{value_of}
 
 -- What is known of the values of a graph's terms, by their numbers. A value is above 0.

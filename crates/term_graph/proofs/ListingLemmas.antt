@@ -13,8 +13,7 @@ use Rattle.std.specs.List.{IsDistinct}
 use Rattle.ld_term.specs.Terms.{Term, variable, multiply, height}
 use Rattle.term_graph.specs.TermLists.{term_at}
 use Rattle.term_graph.specs.Asks.{same_term, has_term}
-use Rattle.term_graph.specs.Listings.{products, add_new, distinct_products}
-use Rattle.term_graph.specs.Places.{IsClosed}
+use Rattle.term_graph.specs.Listings.{products, add_new, IsClosed, distinct_products}
 use Rattle.term_graph.proofs.AskLemmas.{same_term-self, same_term-true, has_term-append_left, has_term-push}
 
 -- ---- Terms that are there ----

@@ -10,8 +10,8 @@ use Rattle.std.proofs.lemmas.List.{get_or_default, length-map, length-set, map-a
 use Rattle.ld_term.specs.Terms.{Term, multiply}
 use Rattle.term_graph.specs.TermLists.{term_at}
 use Rattle.term_graph.specs.Asks.{has_term}
-use Rattle.term_graph.specs.Listings.{products, add_new, distinct_products, IsListing}
-use Rattle.term_graph.specs.Places.{place_of, IsPlaced, IsClosed, IsBegun}
+use Rattle.term_graph.specs.Listings.{IsClosed, products, add_new, distinct_products, IsListing}
+use Rattle.term_graph.specs.Places.{place_of, IsPlaced, IsBegun}
 use Rattle.term_graph.specs.declared.TheConstants.{MAX_NODES}
 use Rattle.term_graph.proofs.ListingLemmas.{add_new-listed, parts-absent, add_new-product, IsClosed-add_new}
 use Rattle.term_graph.proofs.ProductLemmas.{distinct_products-few}

@@ -7,12 +7,13 @@
 --
 --   products t               the products that are parts of t, in postorder
 --   add_new listed ts        a list, and behind it each of these terms that isn't yet there
+--   IsClosed listed          with each term a list has the products of it
 --   distinct_products t      the different products of t, in postorder of their first occurrences
 --   listing_text t           the text of the listing of t
 --   Listed                   the number of a term, and those of its different products
 --   IsListing made root numbers
 --                            these are the numbers of the different products of the term with number root
-use Rattle.std.specs.Prelude.{◌≡◌, ℕ, ◌+◌, ◌<◌, not, if◌then◌else◌, List, [], ◌∷◌, ◌++◌, All, length, map, codes, decimal}
+use Rattle.std.specs.Prelude.{◌≡◌, ℕ, ◌+◌, ◌<◌, true, not, if◌then◌else◌, List, [], ◌∷◌, ◌++◌, All, length, map, codes, decimal}
 use Rattle.std.specs.List.{prefix_len}
 use Rattle.wb_base.specs.Lines.{line}
 use Rattle.ld_term.specs.Terms.{Term, variable, multiply}
@@ -31,6 +32,10 @@ products (multiply t u) = products t ++ (products u ++ (multiply t u ∷ []))
 abbrev pub add_new : List Term → List Term → List Term
 add_new listed [] = listed
 add_new listed (t ∷ ts) = add_new (if has_term t listed then listed else listed ++ (t ∷ [])) ts
+
+-- With each term the list has the products of it.
+pub record IsClosed (listed : List Term) : Type 0 where
+  pub has : (t u : Term) → has_term t listed ≡ true → has_term u (products t) ≡ true → has_term u listed ≡ true
 
 -- The different products: of (xx)(xx) they are xx and (xx)(xx).
 unfoldable pub distinct_products : Term → List Term

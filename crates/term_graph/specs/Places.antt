@@ -2,16 +2,14 @@
 --
 --   place_of places n         the place of a number in a listing, counted from 1, or 0 where it isn't listed
 --   IsPlaced numbers places   the places are those of these numbers
---   IsClosed listed           with each term a list has the products of it
 --   IsBegun made numbers places
 --                             a part of a listing of this graph's terms
 --   parts_text listed t u     the names of the parts of a product
 --   line_at listed k          the line of the product at a place, counted from 0
-use Rattle.std.specs.Prelude.{◌≡◌, ℕ, ◌+◌, ◌-◌, ◌<◌, ◌≤◌, ◌++◌, true, List, length, map, codes, slice_index_or}
+use Rattle.std.specs.Prelude.{◌≡◌, ℕ, ◌+◌, ◌-◌, ◌<◌, ◌≤◌, ◌++◌, List, length, map, codes, slice_index_or}
 use Rattle.ld_term.specs.Terms.{Term, variable}
-use Rattle.term_graph.specs.Asks.{has_term}
 use Rattle.term_graph.specs.TermLists.{term_at, IsGraph}
-use Rattle.term_graph.specs.Listings.{products, name_text, product_line}
+use Rattle.term_graph.specs.Listings.{IsClosed, name_text, product_line}
 
 -- The place of a number.
 abbrev pub place_of : List ℕ → ℕ → ℕ
@@ -23,10 +21,6 @@ pub record IsPlaced (numbers places : List ℕ) : Type 0 where
   pub place : (k : ℕ) → k < length numbers → place_of places (slice_index_or numbers k 0) ≡ k + 1
   pub few : (n : ℕ) → n < length places → place_of places n ≤ length numbers
   pub number : (n : ℕ) → n < length places → 0 < place_of places n → slice_index_or numbers (place_of places n - 1) 0 ≡ n
-
--- With each term the list has the products of it.
-pub record IsClosed (listed : List Term) : Type 0 where
-  pub has : (t u : Term) → has_term t listed ≡ true → has_term u (products t) ≡ true → has_term u listed ≡ true
 
 -- Of a graph, some numbers and their places are a part of a listing: with each product they have its products.
 pub record IsBegun (made : List Term) (numbers places : List ℕ) : Type 0 where
