@@ -3,3 +3,4 @@ pub mod HandleLemmas
 pub mod ReductLemmas
 pub mod ReductLength
 pub mod NoHandleLemmas
+pub mod HandleFacts

@@ -2,3 +2,4 @@ pub mod RunLemmas
 pub mod SignOfReduced
 pub mod RunEquivalence
 pub mod ReducerLemmas
+pub mod RunFacts
