@@ -3,7 +3,7 @@
 -- The places that `leftmost_of` gives are the leftmost handle and the other way round
 -- (`leftmost_of-Some`, `leftmost_of-IsLeftmost`), and it gives none exactly for a word without a
 -- handle (`leftmost_of-None`, `leftmost_of-HasNoHandle`).
-use Rattle.std.proofs.Common.{◌≡◌, ◌↔◌, ℕ, ◌+◌, ◌-◌, ◌<◌, ◌≤◌, ◌==◌, ltb, Bool, true, false, not, List, length, get_or, MatchOption, Option, Some, None, refl, sym, ap, ap₂, subst, ◌∙◌, inl, inr, arith, length-take, length-drop, get_or-take, get_or-drop}
+use Rattle.std.proofs.Common.{◌≡◌, ◌↔◌, ℕ, ◌+◌, ◌-◌, ◌<◌, ◌≤◌, ◌==◌, ltb, Bool, true, false, not, List, length, get_or, Option, Some, None, refl, sym, ap, ap₂, subst, ◌∙◌, inl, inr, arith, length-take, length-drop, get_or-take, get_or-drop}
 use Rattle.std.specs.List.{list_all, AllPass}
 use mathlib.Core.Bool.{xor}
 use Rattle.std.proofs.lemmas.Bool.{and_parts, and_from, eqb-true, eq-eqb, ltb-true, lt-ltb, cases_eq, cases_lt, cases_order, both_ways}
@@ -196,19 +196,6 @@ HasNoHandle-found w (Some (start, end)) is none =
 -- in a word without a handle none is found
 pub leftmost_of-HasNoHandle : (w : List Letter) → HasNoHandle w → leftmost_of w ≡ None
 leftmost_of-HasNoHandle w none = HasNoHandle-found w _ refl none
-
--- what is found, in one statement
-leftmost_of-cases
-    : (w : List Letter) (o : Option (ℕ × ℕ))
-    → leftmost_of w ≡ o
-    → MatchOption o (HasNoHandle w) (λ r. IsLeftmost w r.0 r.1)
-leftmost_of-cases w None is = leftmost_of-None w is
-leftmost_of-cases w (Some (p, q)) is = leftmost_of-Some w p q is
-
-pub MatchOption-leftmost_of
-    : (w : List Letter)
-    → MatchOption (leftmost_of w) (HasNoHandle w) (λ r. IsLeftmost w r.0 r.1)
-MatchOption-leftmost_of w = leftmost_of-cases w (leftmost_of w) refl
 
 -- ---- A walk back from the end of a handle ----
 

@@ -1,7 +1,7 @@
 -- What one step of a reducer makes of its run.
 --
 -- The premises are the clauses of the calls that the step makes, over plain variables.
-use Rattle.std.proofs.Common.{◌≡◌, ℕ, ◌+◌, ◌<◌, ◌≤◌, List, [], ◌∷◌, ◌++◌, length, Option, Some, None, refl, ap, sym, subst, ◌∙◌, ◌-◌, add-one, arith}
+use Rattle.std.proofs.Common.{◌≡◌, ℕ, ◌+◌, ◌<◌, ◌≤◌, List, [], ◌∷◌, ◌++◌, length, Option, Some, None, refl, ap, sym, subst, ◌∙◌, ◌-◌, arith}
 use Rattle.std.proofs.lemmas.Bool.{lt-ltb, le-ltb}
 use Rattle.braid_word.specs.Words.{Letter}
 use Rattle.handle_find.specs.Handles.{IsHandle, leftmost_of, reduct}
@@ -150,14 +150,6 @@ pub turned-stays
     → now ≡ r
 turned-stays r now t is ended =
     is ∙ ap (λ (s : RunState). record r { run = s }) (turns-ended r.handles r.limit t r.run ended)
-
--- one turn more
-pub turned-suc
-    : (r now next : LimitedRun) (t : ℕ)
-    → now ≡ turned r t
-    → next ≡ turned now 1
-    → next ≡ turned r (t + 1)
-turned-suc r now next t is step = rw (step, is, add-one) refl
 
 -- a reducer that is the run of a word after some turns is that run after more
 pub IsRunAfter-turned
