@@ -22,6 +22,19 @@ image_next_inverse_row
     : image (letter 1 true) (gen 2 false) ≡ gen 2 true ∷ gen 1 false ∷ gen 2 false ∷ []
 image_next_inverse_row = refl
 
+-- the image of an inverse: that of `-2` under `1` is `-1`
+image_inverse_row : image (letter 1 false) (gen 2 true) ≡ gen 1 true ∷ []
+image_inverse_row = refl
+
+-- another generator stays: the image of `3` under `-1` is `3`
+image_other_row : image (letter 1 true) (gen 3 false) ≡ gen 3 false ∷ []
+image_other_row = refl
+
+-- the image of `1` under `1 -1` is `1`
+act_back_row
+    : act (letter 1 false ∷ letter 1 true ∷ []) (gen 1 false ∷ []) ≡ gen 1 false ∷ []
+act_back_row = refl
+
 -- the image of `1` under `1 1` is `1 2 1 -2 -1`
 act_square_row
     : act (letter 1 false ∷ letter 1 false ∷ []) (gen 1 false ∷ [])
