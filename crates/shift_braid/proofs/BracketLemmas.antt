@@ -1,9 +1,10 @@
 -- Laws of the bracket.
 --
 -- Equivalent words have equivalent brackets. Up to equivalence the bracket is left-distributive
--- (`bracket-distributive`), and a word is less than its bracket with any other (`less-bracket`).
+-- (`Equivalent-distributive`), and a word is less than its bracket with any other (`less-bracket`).
 use Rattle.std.proofs.Common.{ℕ, ◌≡◌, ◌≢◌, ◌+◌, ◌<◌, ◌≤◌, true, false, List, [], ◌∷◌, ◌++◌, refl, ap, inl, inr, length, get_or, subst, zero, suc, arith, append_assoc, length-append}
 use Rattle.std.proofs.lemmas.Bool.{false≢true}
+use Rattle.std.proofs.lemmas.List.{length-map}
 use Rattle.braid_word.specs.Words.{Letter, letter, inverse, shift, SomeLetter, EachLetter, IsWord, IsOn}
 use Rattle.braid_word.specs.Equivalence.{EquivalentOn, Equivalent, stay}
 use Rattle.braid_word.specs.Order.{IsSigmaPositiveAt, IsLess}
@@ -39,11 +40,11 @@ on_bracket n a b some on_a on_b =
     (on_append (n + 1) (shift b) _ (on_shift n b on_b)
     ((omega arith), on_inverse (n + 1) (shift a) (on_shift n a on_a)))
 
--- the letters of a bracket: twice those of a, those of b, and one
+-- a shifted word is as long as the word
 pub length-shift : (u : List Letter) → length (shift u) ≡ length u
-length-shift [] = refl
-length-shift (x ∷ u) = omega (arith, length-shift u)
+length-shift u = length-map u _
 
+-- the letters of a bracket: twice those of a, those of b, and one
 pub length-bracket
     : (a b : List Letter)
     → length (bracket a b) ≡ length a + (length b + (length a + 1))
