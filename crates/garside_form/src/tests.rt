@@ -1,3 +1,4 @@
+// Worked normal forms, pairs of equivalent words, and the refusal of a letter of more strands.
 use crate::{NormalErr, NormalForm, normal, put_normal, same};
 use braid_word::{Letter, Word, inverse, read_word};
 use std::alloc::{AllocError, Global};

@@ -1,3 +1,4 @@
+// Worked arrangements, descents and flips, and a pair that is made greedy.
 use crate::{Perm, greedy_pair};
 use std::alloc::{AllocError, Global};
 use std::test::Fail;
