@@ -23,7 +23,11 @@ of_size_8 =
 entry_row : entry of_size_8 1 2 ≡ 4
 entry_row = refl
 
--- the periods of size 4 and of rows 1 to 4 of size 8: those of rows 1 and 2 double
+-- the last row gives each number back, so its column 1 has 1
+entry_last : entry of_size_8 8 1 ∷ entry of_size_8 8 8 ∷ [] ≡ 1 ∷ 8 ∷ []
+entry_last = refl
+
+-- the periods of size 4 and of rows 1 to 4 of size 8: those of rows 1 to 3 double
 period_rows
     : map (period_of of_size_4) (1 ∷ 2 ∷ 3 ∷ 4 ∷ []) ≡ 2 ∷ 2 ∷ 1 ∷ 4 ∷ []
 period_rows = refl
@@ -31,6 +35,10 @@ period_rows = refl
 doubled_rows
     : map (period_of of_size_8) (1 ∷ 2 ∷ 3 ∷ 4 ∷ []) ≡ 4 ∷ 4 ∷ 2 ∷ 4 ∷ []
 doubled_rows = refl
+
+-- those of rows 5 to 7 of size 8 are those of rows 1 to 3 of size 4, and that of row 8 is the size
+later_rows : map (period_of of_size_8) (5 ∷ 6 ∷ 7 ∷ 8 ∷ []) ≡ 2 ∷ 2 ∷ 1 ∷ 8 ∷ []
+later_rows = refl
 
 -- ---- Row 1 has the threshold 2, its period, so its period doubles ----
 
