@@ -1,5 +1,6 @@
-use Rattle.std.proofs.Common.{◌++◌, [], ◌∷◌, length, drop, decimal, flat_map, append_assoc, length-append, ap, ◌∙◌, arith}
+use Rattle.std.proofs.Common.{◌++◌, [], ◌∷◌, drop, decimal, flat_map, append_assoc, refl, ◌∙◌}
 use Rattle.wb_base.proofs.StreamLemmas.{Puts-stopped, Puts-stopped_after, Puts-more, append_known-two}
+use Rattle.wb_base.proofs.WaitingLemmas.{waits-stopped, waits-stopped_after, waits-more}
 use Rattle.laver_table.specs.Table.{row_of}
 use Rattle.laver_table.specs.TableText.{spaced_entry}
 use Rattle.laver_table.proofs.TextLemmas.{row_line-parts, first_entry}
@@ -21,7 +22,7 @@ returns-in_err-put_number-clause-waits g c =
     let first = c.product-first.ensures.entry in
     let parts = row_line-parts row x (first_entry row x first c.product-first.ensures.up_to.0) first in
     let rest = flat_map spaced_entry (drop 1 row) in
-    omega (arith, ap length parts, length-append (decimal x ++ rest) (10 ∷ []), length-append (decimal x) rest, rw c.from.ensures at c.in_err-put_number.ensures.waits)
+    waits-stopped _ _ _ (decimal x) (rest ++ 10 ∷ []) (parts ∙ append_assoc (decimal x) rest (10 ∷ [])) (rw c.from.ensures at c.in_err-put_number.ensures.waits)
 
 pub returns-in_err-put_rest-clause-took : goal.returns-in_err-put_rest-clause-took
 returns-in_err-put_rest-clause-took g c =
@@ -38,7 +39,7 @@ returns-in_err-put_rest-clause-waits g c =
     let first = c.product-first.ensures.entry in
     let parts = row_line-parts row x (first_entry row x first c.product-first.ensures.up_to.0) first in
     let rest = flat_map spaced_entry (drop 1 row) in
-    omega (arith, ap length parts, length-append (decimal x ++ rest) (10 ∷ []), length-append (decimal x) rest, rw c.from.ensures at c.in_ok-put_number.ensures.waits, c.in_err-put_rest.ensures.waits)
+    waits-stopped_after _ _ _ _ (decimal x) rest (10 ∷ []) parts (rw c.from.ensures at c.in_ok-put_number.ensures.waits) c.in_err-put_rest.ensures.waits
 
 pub returns-clause-took : goal.returns-clause-took
 returns-clause-took g c =
@@ -56,4 +57,4 @@ returns-clause-waits g c =
     let first = c.product-first.ensures.entry in
     let parts = row_line-parts row x (first_entry row x first c.product-first.ensures.up_to.0) first in
     let rest = flat_map spaced_entry (drop 1 row) in
-    omega (arith, ap length parts, length-append (decimal x ++ rest) (10 ∷ []), length-append (decimal x) rest, rw c.from.ensures at c.in_ok-put_number.ensures.waits, c.in_ok-put_rest.ensures.waits, c.give_all.ensures.waits)
+    waits-more _ _ _ _ (decimal x ++ rest) (10 ∷ []) parts (waits-more _ _ _ _ (decimal x) rest refl (rw c.from.ensures at c.in_ok-put_number.ensures.waits) c.in_ok-put_rest.ensures.waits) c.give_all.ensures.waits
