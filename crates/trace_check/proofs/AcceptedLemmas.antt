@@ -75,12 +75,6 @@ AllStepsOn [] bounds = tt
 AllStepsOn (s ∷ ss) bounds = (IsStepOn-IsStepLine s bounds.0, AllStepsOn ss bounds.1)
 
 -- steps on handles insert nothing
-pub InsertsOn-handle_step
-    : (n : ℕ) (places : List (ℕ × ℕ))
-    → AllByRecursion (InsertsOn n) (map handle_step places)
-InsertsOn-handle_step n [] = tt
-InsertsOn-handle_step n ((p, q) ∷ places) = (tt, InsertsOn-handle_step n places)
-
 pub IsStepOn-handle_step
     : (n : ℕ) (places : List (ℕ × ℕ))
     → AllByRecursion (IsStepOn n) (map handle_step places)
@@ -149,15 +143,6 @@ EquivalentOn-IsSteps n a [] b on inserts steps = subst (EquivalentOn n a) (sym s
 EquivalentOn-IsSteps n a (s ∷ ss) b on inserts (c, step, short, rest) =
     EquivalentOn-trans (EquivalentOn-IsStep n a s c on inserts.0 step)
     (EquivalentOn-IsSteps n c ss b (IsOn-IsStep n a s c on inserts.0 step) inserts.1 rest)
-
--- steps on handles do so on every number of strands that the word is on
-pub EquivalentOn-handle_steps
-    : (n : ℕ) (a : List Letter) (places : List (ℕ × ℕ)) (b : List Letter)
-    → IsOn n a
-    → IsSteps a (map handle_step places) b
-    → EquivalentOn n a b
-EquivalentOn-handle_steps n a places b on =
-    EquivalentOn-IsSteps n a (map handle_step places) b on (InsertsOn-handle_step n places)
 
 -- steps, and a step behind them
 pub IsSteps-append

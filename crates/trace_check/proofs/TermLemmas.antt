@@ -1,12 +1,11 @@
 -- Laws of the terms of a trace file.
 --
 -- A new graph has room for such a term (`refused-Memory`), which it then stands for (`number-as_term`); and its
--- braid word is come to where it isn't too long (`stepped_to-braid`, `stepped_to-long`).
-use Rattle.std.proofs.Common.{◌≡◌, ℕ, ◌+◌, ◌<◌, ◌≤◌, List, [], ◌∷◌, length, Option, None, Ok, Err, refl, sym, ap, ap₂, ◌∙◌, subst, arith}
-use Rattle.std.proofs.lemmas.Bool.{lt-ltb, le-ltb}
-use Rattle.braid_word.specs.Words.{Letter}
-use Rattle.braid_word.specs.declared.TheConstants.{MAX_LETTERS, MAX_INDEX}
-use Rattle.ld_term.specs.Terms.{Term, variable, height}
+-- braid word isn't come to where it is too long (`stepped_to-long`).
+use Rattle.std.proofs.Common.{◌≡◌, ℕ, ◌<◌, List, [], ◌∷◌, length, None, Err, refl, sym, ap, ◌∙◌, subst, arith}
+use Rattle.std.proofs.lemmas.Bool.{lt-ltb}
+use Rattle.braid_word.specs.declared.TheConstants.{MAX_LETTERS}
+use Rattle.ld_term.specs.Terms.{Term, variable}
 use Rattle.ld_term.specs.Written.{Written, leaf, named, times, HasNoName}
 use Rattle.ld_term.specs.StrictTexts.{as_term}
 use Rattle.term_graph.specs.TermLists.{term_at, braid_length}
@@ -62,18 +61,7 @@ number-as_term terms made names w n none is =
 
 -- ---- Its braid word ----
 
--- the braid word of a term that isn't too long
-pub stepped_to-braid
-    : (t u : Term) (w : List Letter)
-    → t ≡ u
-    → w ≡ braid t
-    → length w ≤ MAX_LETTERS
-    → stepped_to (braid u) ≡ Ok w
-stepped_to-braid t u w same is short =
-    let whole : w ≡ braid u = is ∙ ap braid same in
-    rw (sym whole, le-ltb MAX_LETTERS (length w) short) refl
-
--- one that is
+-- the braid word of a term that is too long
 pub stepped_to-long
     : (t u : Term)
     → t ≡ u
