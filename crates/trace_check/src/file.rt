@@ -73,7 +73,7 @@ fn replay(alloc: Global, bytes: &[u8]) -> Result<Checked, CheckErr>
 /// It is accepted where it is the text of a trace whose steps lead there, over words of at most 100,000
 /// letters, and whose witness has the sign of its verdict. Then the verdict holds, and no other does. Any
 /// other file is refused, at the first line that can't stand there; lines count from 1. It takes memory for
-/// the words and the terms, not for the steps. The format is this project's.
+/// the words and the terms, and for the word of one step at a time. The format is this project's.
 pub fn check(alloc: Global, bytes: &[u8]) -> Result<Checked, CheckErr>
     // What it claims is what the trace claims whose text the file is, which is accepted, and so is valid.
     ensures accepted { IfOk result (λ claim. (t : Trace) × IsAccepted bytes.now t × IsValid t × (claim ≡ claim_of t)) }
