@@ -57,8 +57,18 @@ fn accepts_a_trace_and_nothing_else(rt: HostRuntime) -> Result<(), Fail> {
             "braid-trace 1\nleft 1 2\nright 2 1\nh 2 4\nh 1 2\nverdict less\nwitness 1 -2\nend\n\n",
             "refused 9 Extra",
         ),
+        (
+            "braid-trace 1\nleft 1 2\nright 2 1\nh 2 4\nh 1 2\nverdict less\nwitness 1 -2\nend\nx",
+            "refused 9 Extra",
+        ),
         ("braid-trace 1\nright 1\n", "refused 2 Header"),
         ("braid-trace 1\nleft-terms x\n", "refused 2 Header"),
+        ("braid-trace 1\nleft 1\nright 256\n", "refused 3 Form"),
+        ("braid-trace 1\nleft 1\nright 1\nend\n", "refused 4 Form"),
+        (
+            "braid-trace 1\nleft\nright\nverdict equal\nwitness 0\n",
+            "refused 5 Form",
+        ),
         ("braid-trace 1\nleft \n", "refused 2 Form"),
         ("braid-trace 1\r\n", "refused 1 Header"),
         ("braid-trace 2\n", "refused 1 Header"),
@@ -194,6 +204,7 @@ fn refuses_a_step_that_does_not_apply(rt: HostRuntime) -> Result<(), Fail> {
         ("left\nright\n", "d 1", "refused 4 Step"),
         ("left\nright\n", "i 1 1", "refused 5 Truncated"),
         ("left\nright\n", "i 2 1", "refused 4 Step"),
+        ("left -2\nright 1 -2\n", "h 1 3", "refused 4 Step"),
         ("left\nright 1 1\n", "d 1", "refused 4 Step"),
         ("left\nright 1 2\n", "c 1", "refused 4 Step"),
         ("left\nright 1 -2\n", "c 1", "refused 4 Step"),
@@ -261,6 +272,10 @@ fn refuses_what_is_too_long(rt: HostRuntime) -> Result<(), Fail> {
     form.extend_from_slice(b"left")?;
     end_line(&mut form, MAX_LETTERS + 1)?;
     assert_eq!(rt; answer(alloc, &form)?.as_str(), "refused 4 Form");
+    let mut witness = two_words(alloc, 1)?;
+    witness.extend_from_slice(b"verdict equal\nwitness")?;
+    end_line(&mut witness, MAX_LETTERS + 1)?;
+    assert_eq!(rt; answer(alloc, &witness)?.as_str(), "refused 5 Long");
     let mut line = Vec::from_slice(alloc, b"braid-trace 1\n")?;
     for _ in 0..=MAX_LINE {
         line.push(b'1')?;
@@ -268,6 +283,27 @@ fn refuses_what_is_too_long(rt: HostRuntime) -> Result<(), Fail> {
     assert_eq!(rt; answer(alloc, &line)?.as_str(), "refused 2 Long");
     line.push(b'\n')?;
     assert_eq!(rt; answer(alloc, &line)?.as_str(), "refused 2 Long");
+    Ok(())
+}
+
+// A file that reduces the handle of `1`, so many `2` and `-1`: each `2` becomes three letters.
+fn long_handle(alloc: Global, count: usize) -> Result<Vec<u8>, Fail> {
+    let mut file = Vec::from_slice(alloc, b"braid-trace 1\nleft\nright 1")?;
+    for _ in 0..count {
+        file.extend_from_slice(b" 2")?;
+    }
+    let step = format!(in alloc; " -1\nh 1 {}\n", count.saturating_add(2))?;
+    file.extend_from_slice(step.as_bytes())?;
+    Ok(file)
+}
+
+#[test]
+fn refuses_a_reduct_that_is_too_long(rt: HostRuntime) -> Result<(), Fail> {
+    let alloc = rt.alloc();
+    let fits = long_handle(alloc, 33_333)?;
+    assert_eq!(rt; answer(alloc, &fits)?.as_str(), "refused 5 Truncated");
+    let long = long_handle(alloc, 33_334)?;
+    assert_eq!(rt; answer(alloc, &long)?.as_str(), "refused 4 Long");
     Ok(())
 }
 
