@@ -10,4 +10,4 @@ pub mod PieceLemmas
 pub mod ByteLemmas
 pub mod SpellingLemmas
 pub mod ReadWordLemmas
-pub mod WorkedRows
+pub mod WordFacts

@@ -6,7 +6,7 @@
 --   IsMove n p q i             the left descent i of q can go over to p
 --   Moves n p q p' q'          such moves lead from the pair p, q to the pair p', q'
 --   KeepsProduct n p q p' q'   both pairs represent the same braid on n strands
---   CanPass a z i j            the entries a rise from the place i to the place j, and the places z fall
+--   CanPass a z i j            the entries a don't fall from the place i to the place j, and the places z do
 --   IsStill a z m              that is so of no neighbours at the places below m
 --   Passes a z c y             such neighbours are exchanged in both lists, from a, z to c, y
 --
@@ -46,8 +46,8 @@ KeepsProduct n p q r s =
 -- A move at i exchanges neighbouring entries of the first, and neighbours in the list of places of the second:
 -- so a pair is made greedy in these two lists alone.
 
--- The entries of the first rise from the place i to the place j, and the places of the second fall: where j is
--- i + 1, that is a move.
+-- The entries of the first don't fall from the place i to the place j, and the places of the second do: where j
+-- is i + 1, that is a move.
 abbrev pub CanPass : List ℕ → List ℕ → ℕ → ℕ → Type 0
 CanPass a z i j = (entry z j < entry z i) × (entry a i ≤ entry a j)
 

@@ -6,4 +6,4 @@ pub mod NumberLemmas
 pub mod LineLemmas
 pub mod WriterLemmas
 pub mod NameLemmas
-pub mod WorkedRows
+pub mod TextFacts
