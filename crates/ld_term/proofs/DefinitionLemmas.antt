@@ -9,20 +9,13 @@ use Rattle.ld_term.specs.declared.term_err.TermErr.{TermErr}
 use Rattle.ld_term.specs.declared.term_err.TermErr.TheVariants.{Form, TooDeep, TooMany, Memory}
 use Rattle.ld_term.specs.declared.token.Kind.{Kind}
 use Rattle.ld_term.specs.declared.token.Kind.TheVariants as kinds
+use Rattle.ld_term.proofs.EqualLemmas.{head_is, tail_is}
 
 -- Some term is defined.
 abbrev pub Defines : List Token → Type 0
 Defines tokens = (t : Written) × IsDefinitionOf tokens t
 
--- ---- Lists ----
-
--- equal lists begin and go on alike
-token_is : {x y : Token} {xs ys : List Token} → x ∷ xs ≡ y ∷ ys → x ≡ y
-token_is e = cc
-
-rest_is : {x y : Token} {xs ys : List Token} → x ∷ xs ≡ y ∷ ys → xs ≡ ys
-rest_is e = cc
-
+-- no list with a first element is empty
 nil_cons : {x : Token} {xs : List Token} → [] ≡ x ∷ xs → ⊥
 nil_cons e = cc
 
@@ -49,7 +42,7 @@ pub fault-first
     → IsFault Defines placed end p.place
 fault-first placed after p end is other =
     at_token [] after p is (name [] 0 ∷ (equals ∷ (variable ∷ [])), simplest [] 0)
-    (λ d. other d.1.1.0 d.1.1.1 (token_is d.1.1.2.whole)) refl
+    (λ d. other d.1.1.0 d.1.1.1 (head_is d.1.1.2.whole)) refl
 
 -- a definition goes on behind its name
 pub fault-name
@@ -58,7 +51,7 @@ pub fault-name
     → p.token ≡ name bytes place
     → IsFault Defines placed end (end + 1)
 fault-name placed p bytes place end is called =
-    rw is (at_end (equals ∷ (variable ∷ []), rw called (simplest bytes place)) (λ d. nil_cons (rest_is d.1.2.whole)) refl)
+    rw is (at_end (equals ∷ (variable ∷ []), rw called (simplest bytes place)) (λ d. nil_cons (tail_is d.1.2.whole)) refl)
 
 -- behind a definition's name there is an equals sign
 pub fault-second
@@ -69,7 +62,7 @@ pub fault-second
     → IsFault Defines placed end q.place
 fault-second placed after p q bytes place end is called other =
     at_token (p ∷ []) after q is (equals ∷ (variable ∷ []), rw called (simplest bytes place))
-    (λ d. other (token_is (rest_is d.1.1.2.whole))) refl
+    (λ d. other (head_is (tail_is d.1.1.2.whole))) refl
 
 -- ---- The term ----
 
@@ -90,7 +83,7 @@ term-of
     → Defines (name bytes place ∷ (equals ∷ term))
     → IsTerm false term
 term-of bytes place term (t, (other, at, d)) =
-    (t, subst (λ w. IsTermText false w t) (sym (rest_is (rest_is d.whole))) d.text)
+    (t, subst (λ w. IsTermText false w t) (sym (tail_is (tail_is d.whole))) d.text)
 
 -- what begins a definition behind a name and an equals sign begins a term
 begins-term

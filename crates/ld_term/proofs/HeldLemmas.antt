@@ -4,6 +4,7 @@ use Rattle.ld_term.specs.Written.{Written, leaf, named, times}
 use Rattle.ld_term.specs.Tokens.{open_bracket, close_bracket, star, variable, name}
 use Rattle.ld_term.specs.Automaton.{State, expecting, holding}
 use Rattle.ld_term.specs.Held.{kept_height, left_height, outer_heights, IsHeld, Moves}
+use Rattle.ld_term.proofs.EqualLemmas.{some_inj, head_is, tail_is}
 
 -- what is there isn't absent
 some_none : {X : Type 0} {x : X} → Some x ≡ None → ⊥
@@ -12,17 +13,7 @@ some_none e = cc
 none_some : {X : Type 0} {x : X} → None ≡ Some x → ⊥
 none_some e = cc
 
--- what is there is one thing
-some_same : {X : Type 0} {x y : X} → Some x ≡ Some y → x ≡ y
-some_same e = cc
-
--- equal lists have equal first elements, and equal rests
-head_is : {X : Type 0} {x y : X} {xs ys : List X} → x ∷ xs ≡ y ∷ ys → x ≡ y
-head_is e = cc
-
-tail_is : {X : Type 0} {x y : X} {xs ys : List X} → x ∷ xs ≡ y ∷ ys → xs ≡ ys
-tail_is e = cc
-
+-- lists with equal first elements and equal rests are equal
 cons_is : {X : Type 0} {x y : X} {xs ys : List X} → x ≡ y → xs ≡ ys → x ∷ xs ≡ y ∷ ys
 cons_is e f = cc
 
@@ -102,4 +93,4 @@ moves-close strict (holding t None js) height left k outer held = absurd (some_n
 moves-close strict (holding t (Some a) []) height left k outer held = absurd (snoc_nil outer k held.2)
 moves-close strict (holding t (Some a) (j ∷ js)) height left k outer held =
     let (front, last) = snoc_is outer (outer_heights js) k (left_height j) held.2 in
-    (holding (times a t) j js, refl, (ap Some (kept-times a t left height (some_same held.1) (some_same held.0)), last, front))
+    (holding (times a t) j js, refl, (ap Some (kept-times a t left height (some_inj held.1) (some_inj held.0)), last, front))

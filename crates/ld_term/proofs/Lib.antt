@@ -1,3 +1,4 @@
+pub mod EqualLemmas
 pub mod TermLemmas
 pub mod ReadingLemmas
 pub mod PieceLemmas

@@ -5,12 +5,9 @@ use Rattle.ld_term.specs.Written.{Written, leaf, named, times}
 use Rattle.ld_term.specs.Tokens.{Token, open_bracket, close_bracket, star, equals, variable, name, bad}
 use Rattle.ld_term.specs.Grammar.{atom_tokens, IsTermText, atom, bare, IsTerm, Begins}
 use Rattle.ld_term.specs.Automaton.{State, expecting, holding, step_star, step_close, step, step_from, run, start, finish, before_tokens, front, IsLegalLevel, IsLegal}
+use Rattle.ld_term.proofs.EqualLemmas.{some_inj}
 
 -- ---- Runs ----
-
--- what is there is one thing
-some_inj : {X : Type 0} {x y : X} → Some x ≡ Some y → x ≡ y
-some_inj e = cc
 
 -- reading two lists one after the other
 pub run-append : (strict : Bool) (u v : List Token) (s : Option State) → run strict (u ++ v) s ≡ run strict v (run strict u s)

@@ -10,13 +10,7 @@ use Rattle.ld_term.specs.declared.TheConstants.{MAX_HEIGHT}
 use Rattle.ld_term.specs.declared.token.Kind.{Kind}
 use Rattle.ld_term.specs.declared.token.Kind.TheVariants as kinds
 use Rattle.ld_term.specs.declared.tree.Tree.{Tree}
-
--- equal lists begin and go on alike
-token_is : {x y : Token} {xs ys : List Token} → x ∷ xs ≡ y ∷ ys → x ≡ y
-token_is e = cc
-
-rest_is : {x y : Token} {xs ys : List Token} → x ∷ xs ≡ y ∷ ys → xs ≡ ys
-rest_is e = cc
+use Rattle.ld_term.proofs.EqualLemmas.{tail_is}
 
 -- a piece's token, and the tokens behind it
 pub piece-tokens
@@ -34,7 +28,7 @@ atom-some (times a b) rest e = cc
 
 -- an atom that begins with the variable is it
 pub atom-variable : (t : Written) (more rest : List Token) → variable ∷ more ≡ atom_tokens t ++ rest → (leaf ≡ t) × (more ≡ rest)
-atom-variable leaf more rest e = (refl, rest_is e)
+atom-variable leaf more rest e = (refl, tail_is e)
 atom-variable (named bytes place) more rest e = cc
 atom-variable (times a b) more rest e = cc
 
@@ -44,7 +38,7 @@ pub atom-name
     → name bytes place ∷ more ≡ atom_tokens t ++ rest
     → (named bytes place ≡ t) × (more ≡ rest)
 atom-name bytes place leaf more rest e = cc
-atom-name bytes place (named other at) more rest e = (cc, rest_is e)
+atom-name bytes place (named other at) more rest e = (cc, tail_is e)
 atom-name bytes place (times a b) more rest e = cc
 
 -- The term is a product, and these are the tokens behind its first bracket.
@@ -58,7 +52,7 @@ pub record IsTimes (t : Written) (more rest : List Token) : Type 0 where
 pub atom-times : (t : Written) (more rest : List Token) → open_bracket ∷ more ≡ atom_tokens t ++ rest → IsTimes t more rest
 atom-times leaf more rest e = cc
 atom-times (named bytes place) more rest e = cc
-atom-times (times a b) more rest e = record { left = a; right = b; is = refl; tokens = rest_is e ∙ simp append_assoc }
+atom-times (times a b) more rest e = record { left = a; right = b; is = refl; tokens = tail_is e ∙ simp append_assoc }
 
 -- no atom begins with another token
 pub atom-close : (t : Written) (more rest : List Token) → close_bracket ∷ more ≡ atom_tokens t ++ rest → ⊥
@@ -273,7 +267,7 @@ second-tokens
     → IsPiece strict line at kind first end
     → tokens_of (tokens_from strict end line) ≡ atom_tokens parts.second ++ []
 second-tokens strict line at left t kind first end parts piece =
-    rest_is (sym (piece-tokens strict line at kind first end piece) ∙ parts.tokens) ∙ sym (append-nil (atom_tokens parts.second))
+    tail_is (sym (piece-tokens strict line at kind first end piece) ∙ parts.tokens) ∙ sym (append-nil (atom_tokens parts.second))
 
 -- it is an atom that is no higher than the term
 pub second-starts

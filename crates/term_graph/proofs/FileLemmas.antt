@@ -1,11 +1,12 @@
 -- A term file has one reading or one refusal, and not both.
-use Rattle.std.proofs.Common.{◌≡◌, ℕ, ◌+◌, ◌⊎◌, inl, inr, Bool, true, false, List, [], ◌∷◌, Option, Some, Result, Ok, Err, IsErr, IsErrOf, IfOk, IfErr, refl, sym, ap, ◌∙◌, subst, arith}
+use Rattle.std.proofs.Common.{◌≡◌, ℕ, ◌+◌, ◌⊎◌, inl, inr, Bool, true, false, List, [], ◌∷◌, Option, Result, Ok, Err, IsErr, IsErrOf, IfOk, IfErr, refl, sym, ap, ◌∙◌, subst, arith}
 use Rattle.std.proofs.lemmas.Bool.{true≢false}
 use Rattle.std.proofs.lemmas.Option.{none-some}
 use Rattle.ld_term.specs.Terms.{Term, variable}
 use Rattle.ld_term.specs.Written.{Written}
 use Rattle.ld_term.specs.Tokens.{Token, name, equals}
 use Rattle.ld_term.specs.Grammar.{IsTermText, IsDefinitionText}
+use Rattle.ld_term.proofs.EqualLemmas.{some_inj}
 use Rattle.ld_term.proofs.ReadingLemmas.{text-unique}
 use Rattle.ld_term.proofs.LawLemmas.{fault-none}
 use Rattle.term_graph.specs.Asks.{Asked, answered, too_deep, full, ask_all}
@@ -42,10 +43,6 @@ text-line true tokens (closing t) s one two = absurd one
 text-line true tokens (definition n p t) (closing u) one two = absurd two
 text-line false tokens (definition n p t) s one two = absurd one
 text-line false tokens (closing t) (definition m q u) one two = absurd two
-
--- what is there is one thing
-some_inj : {X : Type 0} {x y : X} → Some x ≡ Some y → x ≡ y
-some_inj e = cc
 
 -- a line has one fault
 pub line_fault-unique
