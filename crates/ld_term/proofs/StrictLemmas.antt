@@ -2,15 +2,10 @@
 --
 -- The tokens of the text are those of the term, by induction on the term, with anything behind the text that
 -- doesn't go on with a run (`lex-strict_text`). That the text has no other term is the law of the grammar
--- (`IsTermText-strict_text`, `strict_text-inj`). Its bytes are brackets, stars and x alone
--- (`list_all-strict_text`).
-use Rattle.std.proofs.Common.{◌≡◌, ℕ, ◌+◌, ◌*◌, Bool, true, false, not, List, [], ◌∷◌, ◌++◌, length, take, refl, sym, ap, ◌∙◌, subst, arith, append_assoc, append-nil, length-append}
-use Rattle.std.specs.List.{prefix_len, list_all}
-use Rattle.std.proofs.Math.Dec.{eqb}
-use Rattle.std.proofs.lemmas.Bool.{true≢false}
-use Rattle.std.proofs.lemmas.List.Folds.{list_all-append, list_all_at}
+-- (`IsTermText-strict_text`, `strict_text-inj`).
+use Rattle.std.proofs.Common.{◌≡◌, ℕ, ◌+◌, ◌*◌, true, false, List, [], ◌∷◌, ◌++◌, length, take, refl, sym, ap, ◌∙◌, subst, arith, append_assoc, append-nil, length-append}
+use Rattle.std.specs.List.{prefix_len}
 use Rattle.wb_base.specs.Names.{is_name_byte}
-use Rattle.wb_base.proofs.LineLemmas.{HasNoLf}
 use Rattle.ld_term.specs.Terms.{Term, variable, multiply, height, leaf_count}
 use Rattle.ld_term.specs.Written.{Written, leaf, named, times, HasNoName, written_height, written_products}
 use Rattle.ld_term.specs.Tokens.{Token, open_bracket, close_bracket, star, variable as variable_token, byte_token, tokens_of, lex, tokens_from, run_token}
@@ -150,37 +145,3 @@ length-strict_text (multiply t u) =
     let right = length-append (strict_text u) (41 ∷ []) in
     let both = length-append (strict_text t) (42 ∷ (strict_text u ++ (41 ∷ []))) in
     omega (arith, both, right, length-strict_text t, length-strict_text u)
-
--- ---- Bytes ----
-
--- what holds of brackets, stars and x holds of each byte
-list_all-strict_text
-    : (p : ℕ → Bool)
-    → p 40 ≡ true
-    → p 41 ≡ true
-    → p 42 ≡ true
-    → p 120 ≡ true
-    → (t : Term)
-    → list_all p (strict_text t) ≡ true
-list_all-strict_text p left right middle single variable = rw single refl
-list_all-strict_text p left right middle single (multiply t u) =
-    rw (
-      left,
-      list_all-append p (strict_text t) (42 ∷ (strict_text u ++ (41 ∷ []))),
-      list_all-strict_text p left right middle single t,
-      middle,
-      list_all-append p (strict_text u) (41 ∷ []),
-      list_all-strict_text p left right middle single u,
-      right,
-    ) refl
-
--- no byte is a space
-pub strict_text-no_space : (t : Term) → list_all (λ b. not (eqb b 32)) (strict_text t) ≡ true
-strict_text-no_space t = list_all-strict_text (λ b. not (eqb b 32)) refl refl refl refl t
-
--- no byte is an LF
-pub strict_text-no_lf : (t : Term) → HasNoLf (strict_text t)
-strict_text-no_lf t k within is =
-    true≢false
-    (sym (list_all-strict_text (λ b. not (eqb b 10)) refl refl refl refl t)
-    ∙ list_all_at (λ b. not (eqb b 10)) (strict_text t) k 0 within (rw is refl))

@@ -2,12 +2,12 @@
 --
 -- A new graph grants what a term without names asks for, if the term is no higher and has no more products
 -- than a graph may have (`text_requests-granted`); then the term is made (`meaning-as_term`).
-use Rattle.std.proofs.Common.{◌≡◌, ℕ, ◌+◌, ◌<◌, ◌≤◌, Bool, true, false, List, [], ◌∷◌, ◌++◌, length, length-append, refl, sym, ap, ap₂, ◌∙◌, arith}
+use Rattle.std.proofs.Common.{◌≡◌, ℕ, ◌+◌, ◌<◌, ◌≤◌, Bool, true, false, List, [], ◌∷◌, ◌++◌, length, length-append, refl, ap, ap₂, ◌∙◌, arith}
 use Rattle.ld_term.specs.Terms.{Term, variable, multiply, height, leaf_count}
 use Rattle.ld_term.specs.Written.{Written, leaf, named, times, written_height, written_products}
 use Rattle.ld_term.specs.StrictTexts.{as_term}
 use Rattle.ld_term.specs.declared.TheConstants.{MAX_HEIGHT}
-use Rattle.term_graph.specs.Asks.{has_term, Asked, answered, ask, ask_all}
+use Rattle.term_graph.specs.Asks.{has_term, answered, ask, ask_all}
 use Rattle.term_graph.specs.Requests.{meaning, text_requests}
 use Rattle.term_graph.specs.declared.TheConstants.{MAX_NODES}
 use Rattle.term_graph.proofs.AskLemmas.{ask-there, ask-new}

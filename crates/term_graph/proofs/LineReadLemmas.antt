@@ -98,10 +98,6 @@ twice-none k names name place t there =
 
 -- ---- Lines that aren't read ----
 
--- Some line is read of the tokens.
-IsLineOf : Bool → List Token → Type 0
-IsLineOf defines tokens = (r : Line) × IsLineText defines tokens r
-
 -- a line that isn't read as a definition has that fault
 pub definition-refused
     : (k : ℕ) (names : List (List ℕ)) (bytes : List ℕ) (e : TermErr)

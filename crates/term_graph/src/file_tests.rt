@@ -174,7 +174,6 @@ fn heights_grow_from_line_to_line(rt: HostRuntime) -> Result<(), Fail> {
     Ok(())
 }
 
-// Definitions of which each doubles the one before it, and the last of them.
 #[test]
 fn a_term_of_many_leaves_has_few_products(rt: HostRuntime) -> Result<(), Fail> {
     let alloc = rt.alloc();
