@@ -10,3 +10,4 @@ pub mod TextLemmas
 pub mod LawLemmas
 pub mod StrictLemmas
 pub mod StrictReadingLemmas
+pub mod WorkedRows

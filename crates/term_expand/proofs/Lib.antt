@@ -1,3 +1,4 @@
 pub mod ExpandLemmas
 pub mod MemoLemmas
 pub mod WorkLemmas
+pub mod WorkedRows

@@ -17,3 +17,4 @@ pub mod GrantLemmas
 pub mod DistinctLemmas
 pub mod ListingTextLemmas
 pub mod ListingFileLemmas
+pub mod WorkedRows
