@@ -11,3 +11,4 @@ pub mod ByteLemmas
 pub mod SpellingLemmas
 pub mod ReadWordLemmas
 pub mod WordFacts
+pub mod LimitFacts

@@ -10,3 +10,4 @@ pub mod ThresholdLemmas
 pub mod FormLemmas
 pub mod HeldLemmas
 pub mod TextLemmas
+pub mod LimitFacts

@@ -10,4 +10,5 @@ pub mod TextLemmas
 pub mod LawLemmas
 pub mod StrictLemmas
 pub mod StrictReadingLemmas
-pub mod WorkedRows
+pub mod TermFacts
+pub mod LimitFacts

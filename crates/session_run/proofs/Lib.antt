@@ -9,3 +9,4 @@ pub mod AloneLemmas
 pub mod TalkLemmas
 pub mod ConversationLemmas
 pub mod ServingLemmas
+pub mod LimitFacts

@@ -2,4 +2,4 @@ pub mod BraidLemmas
 pub mod PlacedLemmas
 pub mod ValueLemmas
 pub mod MemoLemmas
-pub mod WorkedRows
+pub mod BraidFacts

@@ -1,4 +1,5 @@
 pub mod ExpandLemmas
 pub mod MemoLemmas
 pub mod WorkLemmas
-pub mod WorkedRows
+pub mod ExpansionFacts
+pub mod LimitFacts

@@ -17,4 +17,5 @@ pub mod GrantLemmas
 pub mod DistinctLemmas
 pub mod ListingTextLemmas
 pub mod ListingFileLemmas
-pub mod WorkedRows
+pub mod GraphFacts
+pub mod LimitFacts

@@ -9,3 +9,4 @@ pub mod VerdictLemmas
 pub mod AcceptedLemmas
 pub mod RefusalLaws
 pub mod TermLemmas
+pub mod LimitFacts

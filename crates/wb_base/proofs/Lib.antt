@@ -7,3 +7,4 @@ pub mod LineLemmas
 pub mod WriterLemmas
 pub mod NameLemmas
 pub mod TextFacts
+pub mod LimitFacts

@@ -9,3 +9,4 @@ pub mod AcceptedTraces
 pub mod TermVerdictLemmas
 pub mod VerdictLemmas
 pub mod SessionLemmas
+pub mod LimitFacts
