@@ -74,10 +74,7 @@ opened_alone name jobs j full own none once room = absurd (room refl)
 opened_alone name jobs j too_long own none once room = rw none refl
 opened_alone name jobs j free own none once room = rw (found_last name jobs j own none) refl
 
--- what an opening of a closed name meets: as of no job, where it doesn't meet the greatest number
-size_of : List Letter → List Letter → Opening
-size_of u v = cond (nat_lt MAX_LETTERS (length (quotient u v))) too_long free
-
+-- the size of a quotient isn't met as an open name, nor as the greatest number of jobs
 size_once : (b : Bool) → cond b too_long free ≢ twice
 size_once true e = absurd cc
 size_once false e = absurd cc
@@ -86,6 +83,7 @@ size_room : (b : Bool) → cond b too_long free ≢ full
 size_room true e = absurd cc
 size_room false e = absurd cc
 
+-- what an opening of a closed name meets: as of no job, where it doesn't meet the greatest number
 begin_goes
     : (name : List ℕ) (jobs : List Job) (handles limit : ℕ) (u v : List Letter)
     → find_job name jobs ≡ None

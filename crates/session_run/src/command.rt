@@ -12,7 +12,7 @@ use std::alloc::Global;
 use thiserror::Error;
 use wb_base::{Name, read_number};
 
-/// A command of a session. Its numbers are at most 100,000.
+/// A command of a session. Its numbers have to be at most 100,000, as those that are read are.
 #[derive(Debug, Drop)]
 pub enum Command {
     /// Opens a job: the run of the quotient of two words, within these limits.

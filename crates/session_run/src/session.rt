@@ -189,7 +189,7 @@ impl Session {
     /// Does a command, and replies.
     ///
     /// A job is refused where its name is open, else where as many jobs are open as may be, else where its
-    /// quotient is too long. Only `Begin` takes memory; the others of these turn, show, or close one job.
+    /// quotient is too long. Only `Begin` takes memory.
     pub fn command(&mut self, command: Command) -> Reply
         requires { HasSmallNumbers command }
         ensures reply { result ≢ Reply.Memory → result ≡ reply_to self.old command }
