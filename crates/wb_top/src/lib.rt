@@ -25,7 +25,7 @@ pub use program::run;
 /// The most bytes of input.
 pub const MAX_INPUT: usize = session_run::MAX_INPUT;
 
-/// The most strands of `normal`, `same` and `act`.
+/// The most strands of `normal`, `same`, `act` and `bench`.
 pub const MAX_STRANDS: u32 = 64;
 
 /// The most generators that an image may be allowed to have.
