@@ -1,3 +1,4 @@
+pub mod WorkedRows
 pub mod JobLemmas
 pub mod FieldLemmas
 pub mod KeepLemmas
