@@ -1,3 +1,4 @@
+pub mod LetterFacts
 pub mod SortLemmas
 pub mod SettleLemmas
 pub mod LevelLemmas

@@ -1,4 +1,4 @@
-pub mod WorkedRows
+pub mod SessionFacts
 pub mod JobLemmas
 pub mod FieldLemmas
 pub mod KeepLemmas

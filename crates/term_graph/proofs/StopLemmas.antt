@@ -4,7 +4,7 @@
 -- (`AreLeft`, `AreLeft-stopped`). It is a refusal of them all (`IsStopped-refusal`).
 use Rattle.std.proofs.Common.{◌≡◌, ℕ, List, [], ◌∷◌, ◌++◌, Result, Ok, Err, IfErr, OnErr, refl, sym, ap, ◌∙◌, subst, append_assoc, append-nil}
 use Rattle.ld_term.specs.Terms.{Term}
-use Rattle.term_graph.specs.Asks.{Asked, answered, too_deep, full, ask, ask_all, ask_first, IsRefusal, IsStopped}
+use Rattle.term_graph.specs.Asks.{Asked, answered, ask, ask_all, ask_first, IsRefusal, IsStopped}
 use Rattle.term_graph.specs.declared.error.GraphErr.{GraphErr}
 use Rattle.term_graph.specs.declared.error.GraphErr.TheVariants.{TooDeep, Full, Memory}
 use Rattle.term_graph.proofs.AskLemmas.{ask_all-append, ask_all-deep, ask_all-full}

@@ -6,7 +6,7 @@
 -- (`IsAccepted-unique`).
 use Rattle.std.proofs.Common.{◌≡◌, ℕ, ◌+◌, ◌-◌, ◌≤◌, List, [], ◌∷◌, ◌++◌, length, map, refl, sym, subst, ◌∙◌, arith}
 use Rattle.std.specs.List.{AllByRecursion}
-use Rattle.braid_word.specs.Words.{Letter, letter, opposite, quotient, IsOn}
+use Rattle.braid_word.specs.Words.{Letter, letter, opposite, IsOn}
 use Rattle.braid_word.specs.Equivalence.{EquivalentOn, stay, Equivalent}
 use Rattle.braid_word.specs.declared.TheConstants.{MAX_INDEX, MAX_LETTERS}
 use Rattle.braid_word.proofs.WordLemmas.{on_left, on_right, on_quotient}

@@ -67,7 +67,7 @@ length-keyword_term keyword t short small =
     omega (arith, short, small.few, length-strict_text t, length-append keyword (strict_text t))
 
 -- a place
-length-place : (p : ℕ) → IsPlace p → length (decimal p) ≤ 10
+pub length-place : (p : ℕ) → IsPlace p → length (decimal p) ≤ 10
 length-place p place = length-decimal-le_wide 10 p (omega arith) (omega arith) (omega arith)
 
 -- no line of a trace is too long

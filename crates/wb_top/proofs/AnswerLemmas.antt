@@ -5,7 +5,7 @@
 -- (`IsAnswer-one`).
 use Rattle.std.proofs.Common.{◌≡◌, ◌≢◌, ◌⊎◌, inr, ℕ, Bool, true, false, not, ltb, ◌+◌, ◌<◌, ◌≤◌, List, [], ◌∷◌, ◌++◌, length, drop, Option, Some, None, Result, Ok, Err, IfSome, codes, refl, ap, ap₂, sym, subst, ◌∙◌, zero-add, arith}
 use Rattle.std.specs.Option.{option_map}
-use Rattle.std.proofs.lemmas.Bool.{le-ltb, ltb-false, and_parts, and_from}
+use Rattle.std.proofs.lemmas.Bool.{le-ltb, and_parts, and_from}
 use Rattle.wb_base.specs.Lines.{line}
 use Rattle.free_word.specs.FreeWords.{Gen, gen}
 use Rattle.free_word.specs.FreeText.{free_text}
@@ -27,7 +27,7 @@ use Rattle.wb_top.specs.declared.command.Command.{Command}
 use Rattle.wb_top.specs.declared.command.Command.TheVariants.{Compare, Terms, Check, Normal, Same, Act, Eval, Value, Expand, Derive, Laver, Row, Session, Bench}
 use Rattle.wb_top.specs.declared.input.Fault.{Fault}
 use Rattle.wb_top.specs.Inputs.{one_word, two_words}
-use Rattle.wb_top.proofs.CommandLemmas.{command_of-IsBounded}
+use Rattle.wb_top.proofs.CommandLemmas.{at_least, command_of-IsBounded}
 use Rattle.garside_form.specs.NormalText.{normal_text}
 use Rattle.garside_form.proofs.NormalLemmas.{form_only}
 use Rattle.trace_format.specs.Verdicts.{verdict_of}
@@ -278,27 +278,6 @@ reads_first-reads (Row exponent row) first = first
 reads_first-reads Session first = refl
 reads_first-reads (Bench pairs count seed) first = first
 
--- a command that doesn't, and isn't a session, reads none
-pub once-alone
-    : (command : Command)
-    → reads_first command ≡ false
-    → command ≢ Session
-    → reads_input command ≡ false
-once-alone (Compare handles limit) alone once = alone
-once-alone (Terms handles limit) alone once = alone
-once-alone Check alone once = alone
-once-alone (Normal strands) alone once = alone
-once-alone (Same strands) alone once = alone
-once-alone (Act strands index limit) alone once = alone
-once-alone (Eval limit) alone once = alone
-once-alone (Value exponent) alone once = alone
-once-alone (Expand address) alone once = alone
-once-alone Derive alone once = alone
-once-alone (Laver exponent) alone once = refl
-once-alone (Row exponent row) alone once = refl
-once-alone Session alone once = absurd (once refl)
-once-alone (Bench pairs count seed) alone once = refl
-
 -- a command that reads no input has one answer
 pub Answers-alone
     : (command : Command) (bytes input : List ℕ) (a : Answer)
@@ -463,13 +442,6 @@ Told-Words a s old new told is =
 -- ---- The action ----
 
 -- a length that is no more than a limit
-short-test : (limit size : ℕ) → not (ltb limit size) ≡ true → size ≤ limit
-short-test limit size pass = go (ltb limit size) refl pass
-  where
-    go : (long : Bool) → ltb limit size ≡ long → not long ≡ true → size ≤ limit
-    go true test pass = absurd (cc)
-    go false test pass = ltb-false limit size test
-
 test-short : (limit size : ℕ) → size ≤ limit → not (ltb limit size) ≡ true
 test-short limit size short = rw (le-ltb limit size short) refl
 
@@ -479,11 +451,11 @@ pub images_fit-ImagesFit
     → images_fit limit w f ≡ true
     → ImagesFit limit w f
 images_fit-ImagesFit limit [] f fit [] v is =
-    subst (λ (z : List Letter). length (act z f) ≤ limit) is (short-test limit (length f) fit)
+    subst (λ (z : List Letter). length (act z f) ≤ limit) is (at_least limit (length f) fit)
 images_fit-ImagesFit limit [] f fit (y ∷ u) v is = absurd (cc)
 images_fit-ImagesFit limit (x ∷ w) f fit [] v is =
     let (rest, whole) = and_parts (images_fit limit w f) _ fit in
-    subst (λ (z : List Letter). length (act z f) ≤ limit) is (short-test limit (length (act (x ∷ w) f)) whole)
+    subst (λ (z : List Letter). length (act z f) ≤ limit) is (at_least limit (length (act (x ∷ w) f)) whole)
 images_fit-ImagesFit limit (x ∷ w) f fit (y ∷ u) v is =
     let (rest, whole) = and_parts (images_fit limit w f) _ fit in
     images_fit-ImagesFit limit w f rest u v (let same : w ≡ u ++ v = cc in same)

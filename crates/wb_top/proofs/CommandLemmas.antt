@@ -1,7 +1,7 @@
 -- Laws of the commands that words are.
 --
 -- The numbers of a command are within their bounds (`command_of-IsBounded`).
-use Rattle.std.proofs.Common.{◌≡◌, ℕ, ◌-◌, ◌^◌, ◌<◌, ◌≤◌, ◌==◌, ◌&&◌, ◌||◌, ◌⊎◌, inl, inr, Bool, true, false, cond, ltb, eqb, not, List, All, [], ◌∷◌, length, codes, Option, Some, None, refl, sym, subst, arith}
+use Rattle.std.proofs.Common.{◌≡◌, ℕ, ◌-◌, ◌^◌, ◌<◌, ◌≤◌, ◌==◌, ◌&&◌, ◌||◌, ◌⊎◌, inl, inr, Bool, true, false, ltb, eqb, not, List, All, [], ◌∷◌, length, codes, Option, Some, None, refl, sym, subst, arith}
 use Rattle.std.specs.Option.{option_map}
 use Rattle.std.specs.Str.{bytes_eq}
 use Rattle.std.proofs.lemmas.Bool.{cond_both, and_parts, and_from, eqb-true, le-ltb, ltb-false}
@@ -104,7 +104,7 @@ bench_of-many (a ∷ (b ∷ (c ∷ (d ∷ (e ∷ (f ∷ (g ∷ rest))))))) many 
 -- ---- Addresses ----
 
 -- a number that isn't less
-at_least : (a b : ℕ) → not (ltb a b) ≡ true → b ≤ a
+pub at_least : (a b : ℕ) → not (ltb a b) ≡ true → b ≤ a
 at_least a b pass = go (ltb a b) refl pass
   where
     go : (less : Bool) → ltb a b ≡ less → not less ≡ true → b ≤ a
@@ -164,14 +164,6 @@ sides_of-Some sides address is =
     (λ fail found. absurd cc)
     is
 
--- what is no address isn't read
-pub sides_of-none : (sides : List ℕ) → (IsAddress sides → ⊥) → sides_of sides ≡ None
-sides_of-none sides none = go (sides_of sides) refl
-  where
-    go : (found : Option (List ℕ)) → sides_of sides ≡ found → sides_of sides ≡ None
-    go None is = is
-    go (Some address) is = absurd (none (sides_of-Some sides address is).1)
-
 -- the address that a word is, behind its dot
 pub address_of-read
     : (word sides : List ℕ) (dot : ℕ)
@@ -180,18 +172,6 @@ pub address_of-read
     → IsAddress sides
     → Some sides ≡ address_of word
 address_of-read word sides dot is same address = rw (is, same) (sym (sides_of-address sides address))
-
--- a word that is none
-pub address_of-none
-    : (word sides : List ℕ) (dot : ℕ)
-    → word ≡ dot ∷ sides
-    → (dot ≡ 46 → IsAddress sides → ⊥)
-    → None ≡ address_of word
-address_of-none word sides dot is none = rw is (go (eqb dot 46) refl)
-  where
-    go : (b : Bool) → eqb dot 46 ≡ b → None ≡ cond b (sides_of sides) None
-    go true same = sym (sides_of-none sides (none (eqb-true dot 46 same)))
-    go false other = refl
 
 -- ---- Bounds ----
 

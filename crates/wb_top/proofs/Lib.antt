@@ -10,3 +10,4 @@ pub mod TermVerdictLemmas
 pub mod VerdictLemmas
 pub mod SessionLemmas
 pub mod LimitFacts
+pub mod CommandFacts

@@ -17,20 +17,11 @@ use Rattle.term_eval.specs.Braids.{braid}
 use Rattle.term_eval.specs.declared.word.EvalErr.{EvalErr}
 use Rattle.term_eval.specs.declared.word.EvalErr.TheVariants.{Index}
 use Rattle.term_eval.proofs.BraidLemmas.{length-braid}
-use Rattle.ld_term.specs.Terms.{derived}
 use Rattle.laver_table.specs.Table.{IsLaver}
 use Rattle.laver_table.proofs.LaverLemmas.{IsLaver-only}
-use Rattle.term_graph.specs.Asks.{Asked, answered, too_deep, full, ask_all}
-use Rattle.term_graph.specs.Listings.{listing_text}
 use Rattle.term_eval.specs.Values.{value_of}
-use Rattle.term_expand.specs.Expansions.{Expansion, expanded, no_place, not_expandable, expansion_at, IsExpandRefusal}
-use Rattle.term_expand.specs.Requests.{expand_requests, derive_requests}
-use Rattle.term_expand.specs.declared.error.ExpandErr.{ExpandErr}
-use Rattle.term_expand.specs.declared.error.ExpandErr.TheVariants as expand_errors
-use Rattle.wb_top.specs.declared.input.Fault.TheVariants as faults
-use Rattle.wb_top.specs.Answer.{Answer, answer, bad_input}
-use Rattle.wb_top.specs.ExpansionAnswers.{listed, expansion_answer, expanded_at, derived_in}
-use Rattle.wb_top.specs.TermAnswers.{file_refused, height_met, nodes_met, length_needed, IsOnTerm, on_refusal, on_term, evaluated, valued, terms_compared, AreCompared, terms_refused, terms_read}
+use Rattle.wb_top.specs.Answer.{Answer, answer}
+use Rattle.wb_top.specs.TermAnswers.{file_refused, length_needed, IsOnTerm, on_refusal, on_term, evaluated, valued, terms_compared, AreCompared, terms_refused, terms_read}
 
 -- a term has one leaf more than its braid word has letters, at most
 pub leaf_count-le : (t : Term) → leaf_count t ≤ braid_length t + 1
@@ -111,71 +102,3 @@ pub valued-only
 valued-only exponent rows t v laver is =
     ap (λ n. answer Done (line (decimal n)))
     (ap (λ own. value_of own t) (sym (IsLaver-only exponent rows laver)) ∙ sym is)
-
--- ---- expand and derive ----
-
--- a term that was come to is listed
-pub expanded_at-listed
-    : (k : ℕ) (address : List ℕ) (made new : List Term) (t u v : Term)
-    → expansion_at address t ≡ expanded u
-    → ask_all (answered made) (expand_requests address t) ≡ answered new
-    → v ≡ u
-    → expanded_at k address made t ≡ answer Done (listing_text v)
-expanded_at-listed k address made new t u v found asked is = rw (found, asked, is) refl
-
-pub derived_in-listed
-    : (made new : List Term) (t u v : Term)
-    → u ≡ derived t
-    → ask_all (answered made) (derive_requests t) ≡ answered new
-    → v ≡ u
-    → derived_in made t ≡ answer Done (listing_text v)
-derived_in-listed made new t u v found asked is =
-    ap (λ a. listed a (derived t)) asked ∙ ap (λ w. answer Done (listing_text w)) (sym (is ∙ found))
-
--- What is answered where an expansion of a term in line k fails so. Want of memory has a line here for
--- completeness: it is no answer.
-abbrev pub failed : ℕ → ExpandErr → Answer
-failed k expand_errors.NoPlace = bad_input (faults.Address k)
-failed k expand_errors.NotExpandable = bad_input (faults.Expand k)
-failed k expand_errors.TooDeep = height_met
-failed k expand_errors.Full = nodes_met
-failed k expand_errors.Memory = height_met
-
--- an expansion that fails is answered so
-pub expanded_at-failed
-    : (k : ℕ) (address : List ℕ) (made : List Term) (t : Term) (e : ExpandErr)
-    → IsExpandRefusal (expansion_at address t) (ask_all (answered made) (expand_requests address t)) e
-    → (expansion_at address t ≡ no_place → e ≡ expand_errors.NoPlace)
-    → (expansion_at address t ≡ not_expandable → e ≡ expand_errors.NotExpandable)
-    → e ≢ expand_errors.Memory
-    → expanded_at k address made t ≡ failed k e
-expanded_at-failed k address made t e refused placeless stuck other =
-    go (expansion_at address t) (ask_all (answered made) (expand_requests address t)) e refused placeless stuck other
-  where
-    go
-        : (x : Expansion) (asked : Asked) (e : ExpandErr)
-        → IsExpandRefusal x asked e
-        → (x ≡ no_place → e ≡ expand_errors.NoPlace)
-        → (x ≡ not_expandable → e ≡ expand_errors.NotExpandable)
-        → e ≢ expand_errors.Memory
-        → expansion_answer k x asked ≡ failed k e
-    go no_place asked e refused placeless stuck other = ap (failed k) (sym (placeless refl))
-    go not_expandable asked e refused placeless stuck other = ap (failed k) (sym (stuck refl))
-    go (expanded u) asked expand_errors.NoPlace refused placeless stuck other = absurd (cc)
-    go (expanded u) asked expand_errors.NotExpandable refused placeless stuck other = absurd (cc)
-    go (expanded u) asked expand_errors.TooDeep refused placeless stuck other = rw refused refl
-    go (expanded u) asked expand_errors.Full refused placeless stuck other = rw refused refl
-    go (expanded u) asked expand_errors.Memory refused placeless stuck other = absurd (other refl)
-
--- a derivation that meets a limit is answered so
-pub derived_in-deep
-    : (made : List Term) (t : Term)
-    → ask_all (answered made) (derive_requests t) ≡ too_deep
-    → derived_in made t ≡ height_met
-derived_in-deep made t asked = rw asked refl
-
-pub derived_in-full
-    : (made : List Term) (t : Term)
-    → ask_all (answered made) (derive_requests t) ≡ full
-    → derived_in made t ≡ nodes_met
-derived_in-full made t asked = rw asked refl

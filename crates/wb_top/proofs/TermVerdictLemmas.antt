@@ -294,6 +294,7 @@ HasBraid-evaluated limit input made first a file is done =
       short = omega (arith, length-braid t);
       on = on-written t (braid t) MAX_INDEX refl low;
       is = ap (λ (b : Answer). b.text) (sym met);
+      equivalent = λ u same. Equivalent-braid same;
     }))
     is
 

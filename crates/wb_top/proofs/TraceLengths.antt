@@ -1,7 +1,6 @@
 -- The length of the trace file of a run: `check` can read what `compare` writes.
 use Rattle.std.proofs.Common.{◌≡◌, ℕ, ◌+◌, ◌*◌, ◌≤◌, List, [], ◌∷◌, ◌++◌, length, length-append, codes, decimal, map, flat_map, subst, sym, arith}
 use Rattle.std.specs.List.{AllByRecursion}
-use Rattle.std.proofs.lemmas.Fmt.{length-decimal-le_wide}
 use Rattle.wb_base.specs.Lines.{line}
 use Rattle.handle_reduce.specs.declared.TheConstants.{MAX_BOUND}
 use Rattle.trace_format.specs.Said as said
@@ -9,16 +8,12 @@ use Rattle.trace_format.specs.TraceText.{Header, Trace, word_field, step_text, s
 use Rattle.trace_format.specs.TraceLines.{line_text, IsPlace, IsStepLine, IsHeader, IsTrace}
 use Rattle.trace_format.proofs.TraceLaws.{left_line, right_line, head_text-lines, IsLine-left_line, IsLine-right_line}
 use Rattle.trace_check.specs.declared.TheConstants.{MAX_LINE}
-use Rattle.trace_check.proofs.LineLengths.{length-line_text}
+use Rattle.trace_check.proofs.LineLengths.{length-place, length-line_text}
 use Rattle.wb_top.specs.declared.TheConstants.{MAX_INPUT}
 
 -- a line has its LF more
 length-line : (text : List ℕ) → length (line text) ≡ length text + 1
 length-line text = length-append text (10 ∷ [])
-
--- a place
-length-place : (p : ℕ) → IsPlace p → length (decimal p) ≤ 10
-length-place p place = length-decimal-le_wide 10 p (omega arith) (omega arith) (omega arith)
 
 -- a step on a handle has at most 24 bytes
 length-handle_line

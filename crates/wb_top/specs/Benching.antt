@@ -1,4 +1,6 @@
--- Bounds of what `bench` makes and counts, under which no number overflows. No public clause cites this module.
+-- Bounds of what `bench` makes and counts, under which no number overflows.
+--
+-- Of public clauses only `bounded` of `read_command` cites this, through `IsBounded`.
 --
 --   IsBoundedPairs pairs   the strands, the size and the limits are within their bounds
 --   IsWithin k t           no more than k runs were counted of any kind

@@ -207,7 +207,7 @@ reads_first (Row exponent row) = false
 reads_first Session = false
 reads_first (Bench pairs count seed) = false
 
--- The numbers of a command are within their bounds.
+-- The numbers of a command are within the bounds that its function needs; those that it may have are `command_of`'s.
 abbrev pub IsBounded : Command → Type 0
 IsBounded (Compare handles limit) = (handles ≤ MAX_BOUND) × (limit ≤ MAX_BOUND)
 IsBounded (Terms handles limit) = (handles ≤ MAX_BOUND) × (limit ≤ MAX_BOUND)

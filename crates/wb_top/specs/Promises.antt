@@ -124,7 +124,7 @@ pub record HasImage (strands index limit : ℕ) (input text : List ℕ) : Type 0
   pub is : text ≡ line (free_text (act word (gen index false ∷ [])))
 
 -- The input is a term file of one term, and the text its braid word, which has no more letters than it may
--- have, and no index above 255.
+-- have, and no index above 255. The braid word of each equivalent term is equivalent to it.
 pub record HasBraid (limit : ℕ) (input text : List ℕ) : Type 0 where
   pub made : List Term
   pub first : ℕ
@@ -132,6 +132,7 @@ pub record HasBraid (limit : ℕ) (input text : List ℕ) : Type 0 where
   pub short : length (braid (term_at made first)) ≤ limit
   pub on : IsOn (MAX_INDEX + 1) (braid (term_at made first))
   pub is : text ≡ line (word_text (braid (term_at made first)))
+  pub equivalent : (t : Term) → IsEquivalent t (term_at made first) → Equivalent (braid t) (braid (term_at made first))
 
 -- The input is a term file of one term, and the text its value in the Laver table of size 2^n, which is that of
 -- each equivalent term.

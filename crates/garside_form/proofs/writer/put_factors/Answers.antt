@@ -1,7 +1,7 @@
-use Rattle.std.proofs.Common.{◌+◌, arith}
+use Rattle.std.proofs.Common.{arith}
 use Rattle.wb_base.proofs.StreamLemmas.{Puts-stopped_at}
+use Rattle.wb_base.proofs.WaitingLemmas.{waits-stopped_at}
 use Rattle.garside_form.specs.NormalText.{factor_line}
-use Rattle.garside_form.proofs.NormalTextLemmas.{text_front, length-text_more}
 use Rattle.garside_form.proofs.writer.put_factors.Goals as goal
 
 pub returns-in_err-put_factor-clause-took : goal.returns-in_err-put_factor-clause-took
@@ -10,8 +10,4 @@ returns-in_err-put_factor-clause-took g c =
 
 pub returns-in_err-put_factor-clause-waits : goal.returns-in_err-put_factor-clause-waits
 returns-in_err-put_factor-clause-waits g c =
-    let ps = c.args.factors.now in
-    let k = c.loop-k.k in
-    let more = length-text_more factor_line ps k c.index-factors-k.result (omega arith) c.index-factors-k.is in
-    let front = text_front factor_line ps (k + 1) in
-    omega (arith, more, front, c.loop-k.invariant.waits, c.in_err-put_factor.ensures.waits)
+    waits-stopped_at _ _ _ factor_line c.args.factors.now c.loop-k.k c.index-factors-k.result (omega arith) c.index-factors-k.is c.loop-k.invariant.waits c.in_err-put_factor.ensures.waits

@@ -1,7 +1,8 @@
-use Rattle.std.proofs.Common.{◌++◌, codes, length, length-append, flat_map, ap, arith}
+use Rattle.std.proofs.Common.{◌++◌, codes, flat_map}
 use Rattle.wb_base.specs.Lines.{line}
 use Rattle.wb_base.specs.Numbers.{signed_text}
 use Rattle.wb_base.proofs.StreamLemmas.{Puts-stopped, Puts-more}
+use Rattle.wb_base.proofs.WaitingLemmas.{waits-stopped, waits-more}
 use Rattle.garside_form.specs.NormalText.{factor_line}
 use Rattle.garside_form.proofs.NormalTextLemmas.{normal_text-signed}
 use Rattle.garside_form.proofs.writer.put_normal.Goals as goal
@@ -17,9 +18,8 @@ pub returns-in_err-put_delta-clause-waits : goal.returns-in_err-put_delta-clause
 returns-in_err-put_delta-clause-waits g c =
     let f = c.args.normal.now in
     let (negative, size) = c.signed_delta-negative.result in
-    let first = line (codes "delta " ++ signed_text negative size) in
-    let rest = flat_map factor_line f.factors in
-    omega (arith, ap length (normal_text-signed f negative size c.signed_delta-negative.ensures), length-append first rest, c.in_err-put_delta.ensures.waits)
+    waits-stopped _ _ _ (line (codes "delta " ++ signed_text negative size)) (flat_map factor_line f.factors)
+    (normal_text-signed f negative size c.signed_delta-negative.ensures) c.in_err-put_delta.ensures.waits
 
 pub returns-clause-took : goal.returns-clause-took
 returns-clause-took g c =
@@ -32,6 +32,5 @@ pub returns-clause-waits : goal.returns-clause-waits
 returns-clause-waits g c =
     let f = c.args.normal.now in
     let (negative, size) = c.signed_delta-negative.result in
-    let first = line (codes "delta " ++ signed_text negative size) in
-    let rest = flat_map factor_line f.factors in
-    omega (arith, ap length (normal_text-signed f negative size c.signed_delta-negative.ensures), length-append first rest, c.in_ok-put_delta.ensures.waits, rw c.factors.ensures at c.put_factors.ensures.waits)
+    waits-more _ _ _ _ (line (codes "delta " ++ signed_text negative size)) (flat_map factor_line f.factors)
+    (normal_text-signed f negative size c.signed_delta-negative.ensures) c.in_ok-put_delta.ensures.waits (rw c.factors.ensures at c.put_factors.ensures.waits)

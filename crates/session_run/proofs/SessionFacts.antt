@@ -2,15 +2,10 @@
 use Rattle.std.proofs.Common.{◌≡◌, ℕ, List, [], ◌∷◌, map, codes, Some, None, true, false, refl}
 use Rattle.braid_word.specs.Words.{letter}
 use Rattle.braid_word.specs.Notation.{word_of, number_word_of}
-use Rattle.session_run.specs.declared.TheConstants.{MAX_JOBS, MAX_INPUT, MAX_PIECE}
 use Rattle.session_run.specs.declared.command.Command.TheVariants.{Begin, Turn, Close}
 use Rattle.session_run.specs.CommandLines.{fields_of, command_of}
 use Rattle.session_run.specs.Jobs.{Job, more_turns, after_all}
 use Rattle.session_run.specs.Conversation.{whole_lines}
-
--- how many jobs may be open, and how many bytes a session takes in all and at one time
-limits_row : MAX_JOBS ∷ (MAX_INPUT ∷ (MAX_PIECE ∷ [])) ≡ 64 ∷ (8388608 ∷ (4096 ∷ []))
-limits_row = refl
 
 -- spaces before, between and behind fields count for nothing
 fields_row : fields_of (codes " turn  a 1 ") ≡ codes "turn" ∷ (codes "a" ∷ (codes "1" ∷ []))
