@@ -93,7 +93,13 @@ pub(crate) fn expand_input(
     ensures known { IfOk result (λ outcome. (answer_of outcome).status ≢ Status.Words) }
 {
     match read_terms(alloc, input, 1) {
-        Ok(file) => expand_term(alloc, file.graph, file.first, address, count_lines(input) as u64),
+        Ok(file) => expand_term(
+            alloc,
+            file.graph,
+            file.first,
+            address,
+            count_lines(input) as u64,
+        ),
         Err(error) => refuse(error),
     }
 }
