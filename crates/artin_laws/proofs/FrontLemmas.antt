@@ -17,6 +17,7 @@ use Rattle.std.proofs.Common.{ℕ, ◌≡◌, ◌≢◌, ◌⊎◌, inl, inr, �
 use Rattle.std.proofs.lemmas.Bool.{true≢false, false≢true, cases_eq, ne_eqb}
 use Rattle.std.proofs.Math.Bool.{not-not}
 use Rattle.braid_word.specs.Words.{Letter, letter}
+use Rattle.braid_word.proofs.WordLemmas.{same_or_opposite}
 use Rattle.free_word.specs.FreeWords.{Gen, gen, opposite, IsReduced, put, product}
 use Rattle.free_word.proofs.FreeWordLemmas.{put-cancel, put-keep, reduced_rest}
 use Rattle.artin_laws.specs.Action.{image, act_letter}
@@ -85,13 +86,6 @@ image-other i false false j own next = simp (ne_eqb j i own, ne_eqb j (i + 1) ne
 sign_turned : (e : Bool) → e ≢ not e
 sign_turned true = true≢false
 sign_turned false = false≢true
-
--- a sign is another one or its opposite
-cases_sign : (d e : Bool) → (d ≡ e) ⊎ (d ≡ not e)
-cases_sign true true = inl refl
-cases_sign true false = inr refl
-cases_sign false true = inr refl
-cases_sign false false = inl refl
 
 -- generators of different indices differ
 pub other_index : (x y : Gen) → x.index ≢ y.index → x ≢ y
@@ -256,7 +250,7 @@ module _ (p q : ℕ) (e : Bool) (apart : p ≢ q) where
       → IsReduced (gen q d ∷ g)
       → HasFront p q e g r
       → HasFront p q e (gen q d ∷ g) (product (gen p d ∷ []) r)
-  HasFront-light d g r reduced front = elim (cases_sign d e) [
+  HasFront-light d g r reduced front = elim (same_or_opposite d e) [
     | inl same ↦
         let next = along_next g r (subst (λ b. IsReduced (gen q b ∷ g)) same reduced) front in
         rw same (of_along g r refl (put-avoids (gen p e) r next.0) next.1)

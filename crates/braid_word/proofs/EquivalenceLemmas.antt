@@ -210,25 +210,6 @@ EquivalentOn-inverse {n} {u} {v} chain =
     (EquivalentOn-inverse_append n v (on_last chain)) in
     EquivalentOn-sym (EquivalentOn-solve_right (inverse v) u gone)
 
--- quotients of equivalent words are equivalent
-pub EquivalentOn-quotient
-    : {n : ℕ} {u v a b : List Letter}
-    → EquivalentOn n u v
-    → EquivalentOn n a b
-    → EquivalentOn n (quotient u a) (quotient v b)
-EquivalentOn-quotient first second = EquivalentOn-append (EquivalentOn-inverse first) second
-
--- the quotients of u and v and of v and w make that of u and w
-pub EquivalentOn-quotient_append
-    : (n : ℕ) (u v w : List Letter)
-    → IsOn n u
-    → IsOn n v
-    → IsOn n w
-    → EquivalentOn n (quotient u v ++ quotient v w) (quotient u w)
-EquivalentOn-quotient_append n u v w on_u on_v on_w =
-    rw append_assoc (EquivalentOn-after (inverse u) (on_inverse n u on_u)
-    (EquivalentOn-drop_right n v w on_v on_w))
-
 -- ---- With no number of strands given ----
 
 -- two equivalences on one number of strands
@@ -242,10 +223,6 @@ Equivalent-together (n, first) (m, second) = (
   EquivalentOn-more (n + m) (omega arith) first,
   EquivalentOn-more (n + m) (omega arith) second,
 )
-
--- what is equivalent to something is a word
-pub Equivalent-word_left : {u v : List Letter} → Equivalent u v → IsWord u
-Equivalent-word_left (n, chain) = on_word n _ (on_first chain)
 
 -- what something is equivalent to is a word
 pub Equivalent-word_right : {u v : List Letter} → Equivalent u v → IsWord v
@@ -277,23 +254,10 @@ Equivalent-append first second =
 pub Equivalent-inverse : {u v : List Letter} → Equivalent u v → Equivalent (inverse u) (inverse v)
 Equivalent-inverse (n, chain) = (n, EquivalentOn-inverse chain)
 
--- quotients of equivalent words are equivalent
-pub Equivalent-quotient
-    : {u v a b : List Letter}
-    → Equivalent u v
-    → Equivalent a b
-    → Equivalent (quotient u a) (quotient v b)
-Equivalent-quotient first second = Equivalent-append (Equivalent-inverse first) second
-
 -- a word and its inverse are equivalent to nothing
 pub Equivalent-append_inverse : (u : List Letter) → IsWord u → Equivalent (u ++ inverse u) []
 Equivalent-append_inverse u word =
     let (n, on) = on_some u word in (n, EquivalentOn-append_inverse n u on)
-
--- the inverse of a word and the word are equivalent to nothing
-pub Equivalent-inverse_append : (u : List Letter) → IsWord u → Equivalent (inverse u ++ u) []
-Equivalent-inverse_append u word =
-    let (n, on) = on_some u word in (n, EquivalentOn-inverse_append n u on)
 
 -- ---- Equality as a verdict ----
 
@@ -314,7 +278,3 @@ EquivalentOn-from_quotient {n} u v chain =
     let solved : EquivalentOn n v (inverse (inverse u) ++ []) =
     EquivalentOn-solve_left (inverse u) v (EquivalentOn-sym chain) in
     EquivalentOn-sym (simp (inverse-inverse, append-nil) at solved)
-
--- equal words are equivalent
-pub Equivalent-from_equal : (u v : List Letter) → IsEqual u v → Equivalent u v
-Equivalent-from_equal u v (n, chain) = (n, EquivalentOn-from_quotient u v chain)

@@ -1,22 +1,21 @@
 -- Laws of words that are read in either notation.
 --
 -- A word that is read has no more letters than may be read, and no index above the greatest
--- (`IsReadable-word_of`). So it is a word on 256 strands. A word that can be read is read from its
--- strict spelling (`word_of-word_text`). What that makes of a reader's answer stands at the end
--- (`IfOk-readable`, `IfOk-strict`).
+-- (`IsReadable-word_of`). A word that can be read is read from its strict spelling
+-- (`word_of-word_text`). What that makes of a reader's answer stands at the end (`IfOk-readable`,
+-- `IfOk-strict`).
 use Rattle.std.proofs.Common.{◌≡◌, ℕ, ◌+◌, ◌-◌, ◌<◌, ◌≤◌, Bool, true, false, cond, eqb, inl, inr, List, [], ◌∷◌, length, map, filter, not, refl, ap, ◌∙◌, subst, arith, leb, Result, Ok, Err, IfOk}
 use Rattle.std.specs.Int.{is_in_range}
 use Rattle.std.specs.Char.{is_ascii_alphabetic}
 use Rattle.std.proofs.lemmas.Bool.{cases_Bool, and_parts, ne_eqb, leb-true, lt-leb}
 use Rattle.std.proofs.lemmas.List.Elements.{All-head, All-tail}
-use Rattle.braid_word.specs.Words.{Letter, letter, IsWord, IsOn}
+use Rattle.braid_word.specs.Words.{Letter, letter, IsOn}
 use Rattle.braid_word.specs.NumberNotation.{Piece, placed_from, pieces_of}
 use Rattle.braid_word.specs.LetterNotation.{is_lettered, letter_of_byte}
 use Rattle.braid_word.specs.Notation.{letters_of, letters_from, in_front, not_too_long, number_word_of, letters_word_of, word_of, strict_word_of, letter_text, word_text, IsReadable, Gives}
 use Rattle.braid_word.specs.declared.TheConstants.{MAX_INDEX}
 use Rattle.braid_word.specs.declared.reader.WordErr.{WordErr}
 use Rattle.braid_word.specs.declared.reader.WordErr.TheVariants.{BadLetter}
-use Rattle.braid_word.proofs.WordLemmas.{on_word}
 use Rattle.braid_word.proofs.SpellingLemmas.{Ok-injective, in_front-is, letters_of-is, not_too_long-is, not_too_long-short, letters_of-letter_text, length-letter_text, split-word_text, AllWithin, word_text-within, strict_word_of-is}
 
 -- ---- What is read can be read ----
@@ -117,17 +116,6 @@ IsReadable-word_of line w read = go (is_lettered line) read
         → IsReadable w
     go true is = IsReadable-letters_word_of line w is
     go false is = IsReadable-number_word_of line w is
-
--- so it has no index above the greatest
-pub IsOn-word_of
-    : (line : List ℕ) (w : List Letter)
-    → word_of line ≡ Ok w
-    → IsOn (MAX_INDEX + 1) w
-IsOn-word_of line w read = (IsReadable-word_of line w read).on
-
--- and is a word
-pub IsWord-word_of : (line : List ℕ) (w : List Letter) → word_of line ≡ Ok w → IsWord w
-IsWord-word_of line w read = on_word (MAX_INDEX + 1) w (IsOn-word_of line w read)
 
 -- ---- What can be read is read ----
 

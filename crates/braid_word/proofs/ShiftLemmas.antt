@@ -1,12 +1,12 @@
 -- Shifting words: 1 is added to every index.
 --
--- Shifting goes through products, inverses and quotients, and a shifted word is on one strand more.
+-- Shifting goes through products and inverses, and a shifted word is on one strand more.
 -- Words equivalent on n strands are, when shifted, equivalent on n + 1 strands
 -- (`EquivalentOn-shift`), since each shifted relation is a relation.
 use Rattle.std.proofs.Common.{ℕ, ◌≡◌, ◌+◌, List, [], ◌∷◌, ◌++◌, refl, arith}
 use Rattle.std.proofs.lemmas.List.{map-append}
-use Rattle.braid_word.specs.Words.{Letter, letter, inverse, quotient, shift, EachLetter, IsWord, IsOn}
-use Rattle.braid_word.specs.Equivalence.{Relation, commutation, braiding, cancellation, left_side, right_side, DifferByOne, forward, backward, EquivalentOn, stay, move, Equivalent}
+use Rattle.braid_word.specs.Words.{Letter, letter, inverse, shift, EachLetter, IsWord, IsOn}
+use Rattle.braid_word.specs.Equivalence.{Relation, commutation, braiding, cancellation, left_side, right_side, DifferByOne, forward, backward, EquivalentOn, stay, move}
 
 -- ---- Words ----
 
@@ -18,10 +18,6 @@ shift-append = map-append _
 pub shift-inverse : (u : List Letter) → shift (inverse u) ≡ inverse (shift u)
 shift-inverse [] = refl
 shift-inverse (x ∷ u) = rw (shift-append, shift-inverse u)
-
--- shifting a quotient shifts its two parts
-pub shift-quotient : (u v : List Letter) → shift (quotient u v) ≡ quotient (shift u) (shift v)
-shift-quotient u v = rw (shift-append, shift-inverse)
 
 -- what holds of the shifted letters holds of the letters of the shifted word
 pub each_shift
@@ -80,7 +76,3 @@ pub EquivalentOn-shift
 EquivalentOn-shift {n} (stay {u} on) = stay (on_shift n u on)
 EquivalentOn-shift {n} (move {u} on step chain) =
     move (on_shift n u on) (DifferByOne-shift step) (EquivalentOn-shift chain)
-
--- the same where no number of strands is given
-pub Equivalent-shift : {u v : List Letter} → Equivalent u v → Equivalent (shift u) (shift v)
-Equivalent-shift (n, chain) = (n + 1, EquivalentOn-shift chain)

@@ -3,7 +3,7 @@
 -- A fact about the letters of a word is taken apart and put together at `++` and at `inverse`. The
 -- inverse of a product is the product of the inverses, the other way round (`inverse-append`), and
 -- inverting twice changes nothing (`inverse-inverse`).
-use Rattle.std.proofs.Common.{ℕ, ◌≡◌, ◌⊎◌, inl, inr, ◌+◌, ◌≤◌, List, [], ◌∷◌, ◌++◌, refl, sym, ap, append_assoc, append-nil, length, length-append, map, reverse, arith}
+use Rattle.std.proofs.Common.{ℕ, ◌≡◌, Bool, true, false, not, ◌⊎◌, inl, inr, ◌+◌, ◌≤◌, List, [], ◌∷◌, ◌++◌, refl, sym, ap, append_assoc, append-nil, length, length-append, map, reverse, arith}
 use Rattle.std.proofs.lemmas.List.{map-append, reverse-append}
 use Rattle.std.proofs.Math.Bool.{not-not}
 use mathlib.Core.Path.{◌≡⟨◌⟩◌, ◌∎}
@@ -117,6 +117,13 @@ some_inverse P Q f (x ∷ u) (inr s) =
 
 -- ---- Inverses ----
 
+-- a sign is this one or the other
+pub same_or_opposite : (a b : Bool) → (a ≡ b) ⊎ (a ≡ not b)
+same_or_opposite true true = inl refl
+same_or_opposite true false = inr refl
+same_or_opposite false true = inr refl
+same_or_opposite false false = inl refl
+
 -- a letter is the inverse of its inverse
 pub opposite-opposite : (x : Letter) → opposite (opposite x) ≡ x
 opposite-opposite x = ap (letter x.index) (not-not x.negative)
@@ -151,10 +158,6 @@ inverse-reverse [] = refl
 inverse-reverse (x ∷ u) =
     rw (reverse-append (x ∷ []) u, map-append) (ap (λ w. w ++ opposite x ∷ []) (inverse-reverse u))
 
--- the inverse of a quotient is the quotient the other way round
-pub inverse-quotient : (u v : List Letter) → inverse (quotient u v) ≡ quotient v u
-inverse-quotient u v = rw (inverse-append, inverse-inverse)
-
 -- the inverse of a word is as long
 pub length-inverse : (u : List Letter) → length (inverse u) ≡ length u
 length-inverse [] = refl
@@ -170,21 +173,9 @@ length-quotient u v = omega (arith, length-append (inverse u) v, length-inverse 
 pub word_append : (u v : List Letter) → IsWord u → IsWord v → IsWord (u ++ v)
 word_append = each_append _
 
--- the first part of a word is a word
-pub word_left : (u v : List Letter) → IsWord (u ++ v) → IsWord u
-word_left = each_left _
-
--- the last part of a word is a word
-pub word_right : (u v : List Letter) → IsWord (u ++ v) → IsWord v
-word_right = each_right _
-
 -- the inverse of a word is a word
 pub word_inverse : (u : List Letter) → IsWord u → IsWord (inverse u)
 word_inverse = each_inverse _ _ (λ x p. p)
-
--- the quotient of two words is a word
-pub word_quotient : (u v : List Letter) → IsWord u → IsWord v → IsWord (quotient u v)
-word_quotient u v p q = word_append (inverse u) v (word_inverse u p) q
 
 -- ---- Words on n strands ----
 

@@ -3,6 +3,8 @@
 -- The empty word has the sign `Empty`. The sign of another word is that of its letters of least index,
 -- where they agree, and is mixed where they don't.
 --
+-- Source: P. Dehornoy, Braid groups and left distributive operations, 1994.
+--
 --   least_index x w    the least index of the word x ∷ w
 --   occurs i e w       whether the letter of index i and sign e is in w
 --   sign_of w          the sign of w, with its least index

@@ -8,7 +8,8 @@ use Rattle.wb_base.specs.Numbers.{signed_text}
 use Rattle.perm_braid.specs.Arrangements.{entry}
 use Rattle.perm_braid.proofs.PlaceLemmas.{entry_get}
 use Rattle.garside_form.specs.NormalForms.{Form}
-use Rattle.garside_form.specs.NormalText.{power_text, spaced_entry, factor_line, normal_text}
+use Rattle.wb_base.specs.Numbers.{spaced_number}
+use Rattle.garside_form.specs.NormalText.{power_text, factor_line, normal_text}
 
 -- an entry at a place, counted from 0
 pub entry_found : (p : List ℕ) (k x : ℕ) → k < length p → x ≡ entry p (k + 1) → slice_get p k ≡ Some x
@@ -18,7 +19,7 @@ entry_found p k x within is =
     slice_get_read p (length p) k x refl within here
 
 -- the line of a factor
-pub factor_line-parts : (p : List ℕ) → factor_line p ≡ (codes "factor" ++ flat_map spaced_entry p) ++ 10 ∷ []
+pub factor_line-parts : (p : List ℕ) → factor_line p ≡ (codes "factor" ++ flat_map spaced_number p) ++ 10 ∷ []
 unfolding factor_line
 factor_line-parts p = refl
 

@@ -3,11 +3,11 @@
 -- Source: this project's own.
 --
 --   power_text d       a power in decimal, behind a minus sign where it is negative
---   spaced_entry x     an entry behind a space
 --   factor_line p      the line of a factor, with its LF
 --   normal_text f      the lines of a normal form
 use Rattle.std.specs.Prelude.{ℕ, suc, ℤ, pos, negsuc, List, ◌∷◌, ◌++◌, codes, decimal}
 use Rattle.std.specs.List.{flat_map}
+use Rattle.wb_base.specs.Numbers.{spaced_number}
 use Rattle.wb_base.specs.Lines.{line}
 use Rattle.garside_form.specs.NormalForms.{Form}
 
@@ -16,13 +16,9 @@ abbrev pub power_text : ℤ → List ℕ
 power_text (pos d) = decimal d
 power_text (negsuc d) = 45 ∷ decimal (suc d)
 
--- An entry behind a space.
-abbrev pub spaced_entry : ℕ → List ℕ
-spaced_entry x = 32 ∷ decimal x
-
 -- A factor as a line: `factor 2 3 1`, and LF.
 unfoldable pub factor_line : List ℕ → List ℕ
-factor_line p = line (codes "factor" ++ flat_map spaced_entry p)
+factor_line p = line (codes "factor" ++ flat_map spaced_number p)
 
 -- A normal form as lines: `delta -1`, and then its factors.
 unfoldable pub normal_text : Form → List ℕ

@@ -3,7 +3,8 @@ ghost use Rattle.std.specs.List.{flat_map};
 ghost use Rattle.wb_base.specs.Lines.{line};
 ghost use Rattle.wb_base.specs.Numbers.{signed_text};
 ghost use Rattle.wb_base.specs.Streams.{HasCause, Puts};
-ghost use Rattle.garside_form.specs.NormalText.{spaced_entry, factor_line, normal_text};
+ghost use Rattle.wb_base.specs.Numbers.{spaced_number};
+ghost use Rattle.garside_form.specs.NormalText.{factor_line, normal_text};
 
 use crate::form::NormalForm;
 use perm_braid::Perm;
@@ -11,9 +12,9 @@ use wb_base::{Failed, Sink, give_all, put_number};
 
 // Gives an entry behind a space.
 fn put_entry<K: Sink>(sink: &mut K, entry: u32) -> Result<(), Failed>
-    ensures took { Puts (K.taken sink.old) (K.taken sink.new) result (spaced_entry entry) }
+    ensures took { Puts (K.taken sink.old) (K.taken sink.new) result (spaced_number entry) }
     ensures cause { HasCause (K.faults sink.old) (K.faults sink.new) result }
-    ensures waits { K.waiting sink.new ≤ K.waiting sink.old + length (spaced_entry entry) }
+    ensures waits { K.waiting sink.new ≤ K.waiting sink.old + length (spaced_number entry) }
 {
     give_all(sink, b" ")?;
     put_number(sink, u64::from(entry))
@@ -21,9 +22,9 @@ fn put_entry<K: Sink>(sink: &mut K, entry: u32) -> Result<(), Failed>
 
 // Gives the entries of an arrangement, each behind a space.
 fn put_entries<K: Sink>(sink: &mut K, factor: &Perm) -> Result<(), Failed>
-    ensures took { Puts (K.taken sink.old) (K.taken sink.new) result (flat_map spaced_entry factor.now) }
+    ensures took { Puts (K.taken sink.old) (K.taken sink.new) result (flat_map spaced_number factor.now) }
     ensures cause { HasCause (K.faults sink.old) (K.faults sink.new) result }
-    ensures waits { K.waiting sink.new ≤ K.waiting sink.old + length (flat_map spaced_entry factor.now) }
+    ensures waits { K.waiting sink.new ≤ K.waiting sink.old + length (flat_map spaced_number factor.now) }
 {
     for k in 0..factor.strands() {
         let entry = factor.at(k + 1);

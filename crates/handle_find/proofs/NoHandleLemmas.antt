@@ -11,6 +11,7 @@ use Rattle.braid_word.specs.Sign.{occurs, sign_of}
 use Rattle.braid_word.specs.Order.{IsSigmaPositive, IsSigmaNegative}
 use Rattle.braid_word.specs.declared.sign.Sign.{Sign}
 use Rattle.braid_word.specs.declared.sign.Sign.TheVariants.{Empty, Positive, Negative, Mixed}
+use Rattle.braid_word.proofs.WordLemmas.{same_or_opposite}
 use Rattle.braid_word.proofs.SignLemmas.{HasParts, HasParts-Mixed, is_letter, is_letter-higher, sign_of-Empty, IsSigmaPositiveAt-sign_of, IsSigmaNegativeAt-sign_of}
 use Rattle.handle_find.specs.Handles.{at, IsHandle, HasNoHandle}
 
@@ -127,13 +128,6 @@ pub record HasOneSign (i : ℕ) (w : List Letter) : Type 0 where
   pub negative : Bool
   pub place : ℕ
   pub one_sign : OneSign i negative w place
-
--- a sign is this one or the other
-same_or_opposite : (a b : Bool) → (a ≡ b) ⊎ (a ≡ not b)
-same_or_opposite true true = inl refl
-same_or_opposite true false = inr refl
-same_or_opposite false true = inr refl
-same_or_opposite false false = inl refl
 
 -- a letter of index i before a word
 HasOneSign-head

@@ -7,9 +7,9 @@
 use Rattle.std.proofs.Common.{◌≡◌, ℕ, ◌+◌, ◌-◌, ◌<◌, ◌≤◌, suc, ◌==◌, Bool, false, not, List, [], ◌∷◌, ◌++◌, length, take, drop, flat_map, refl, sym, ap, ap₂, subst, ◌∙◌, inl, inr, arith, append_assoc}
 use Rattle.std.proofs.lemmas.Bool.{eqb-true, eqb-false, cond_both}
 use Rattle.std.proofs.lemmas.List.{take-append-drop, drop-drop, drop_more}
-use Rattle.braid_word.specs.Words.{Letter, letter, opposite, EachLetter, SomeLetter, IsWord, IsOn}
-use Rattle.braid_word.specs.Equivalence.{EquivalentOn, Equivalent}
-use Rattle.braid_word.proofs.WordLemmas.{each_append, each_left, each_right, each_weaker, on_right, on_some}
+use Rattle.braid_word.specs.Words.{Letter, letter, opposite, EachLetter, SomeLetter, IsOn}
+use Rattle.braid_word.specs.Equivalence.{EquivalentOn}
+use Rattle.braid_word.proofs.WordLemmas.{each_append, each_left, each_right, each_weaker, on_right}
 use Rattle.braid_word.proofs.RewritingLemmas.{Alike, alike_left, Alike-refl, Alike-sym, Alike-trans, Alike-append, Alike-cons, drop_letter, drop_opposite, swap_far, turn}
 use Rattle.handle_find.specs.Handles.{at, IsHandle, inside, replaced, reduct, HasIndicesOf}
 use Rattle.handle_find.proofs.HandleLemmas.{higher-inside}
@@ -123,15 +123,6 @@ EquivalentOn-reduct n w p q h on =
     subst (λ v. EquivalentOn n v (reduct w p q)) (sym cut)
     (alike_left (Alike-append (Alike-refl (take p w)) step) on_cut)
 
--- a word and its reduct are equivalent
-pub Equivalent-reduct
-    : (w : List Letter) (p q : ℕ)
-    → IsHandle w p q
-    → IsWord w
-    → Equivalent w (reduct w p q)
-Equivalent-reduct w p q h word =
-    let (n, on) = on_some w word in (n, EquivalentOn-reduct n w p q h on)
-
 -- ---- Indices ----
 
 module _ (P : ℕ → Type 0) where
@@ -175,40 +166,10 @@ module _ (P : ℕ → Type 0) where
       (each_append Q (flat_map (replaced (at w p).index (at w p).negative) (inside w p q)) _
       (each_index-flat_map (at w p).index (at w p).negative (inside w p q) handle.0 middle) end.1)
 
--- the reduct of a word is a word
-pub IsWord-reduct
-    : (w : List Letter) (p q : ℕ)
-    → IsHandle w p q
-    → IsWord w
-    → IsWord (reduct w p q)
-IsWord-reduct = each_index-reduct (λ i. 1 ≤ i)
-
--- the reduct of a word on n strands is on n strands
-pub IsOn-reduct
-    : (n : ℕ) (w : List Letter) (p q : ℕ)
-    → IsHandle w p q
-    → IsOn n w
-    → IsOn n (reduct w p q)
-IsOn-reduct n = each_index-reduct (λ i. (1 ≤ i) × (i < n))
-
 -- a word has its own indices
 pub HasIndicesOf-refl : (w : List Letter) → HasIndicesOf w w
 HasIndicesOf-refl [] = tt
 HasIndicesOf-refl (x ∷ w) = (inl refl, each_weaker _ _ (λ y some. inr some) w (HasIndicesOf-refl w))
-
--- what holds of each index of a word holds of each of a word that has no other
-pub each_index-HasIndicesOf
-    : (P : ℕ → Type 0) (w v : List Letter)
-    → HasIndicesOf w v
-    → EachLetter (λ x. P x.index) w
-    → EachLetter (λ x. P x.index) v
-each_index-HasIndicesOf P w v has own = each_weaker _ _ (λ x some. found x.index w some own) v has
-  where
-    found : (i : ℕ) (w : List Letter) → SomeLetter (λ y. y.index ≡ i) w
-        → EachLetter (λ y. P y.index) w → P i
-    found i [] some own = absurd some
-    found i (y ∷ w) (inl is) own = subst P is own.0
-    found i (y ∷ w) (inr some) own = found i w some own.1
 
 -- the reduct of a word has no index that the word hasn't
 pub HasIndicesOf-reduct

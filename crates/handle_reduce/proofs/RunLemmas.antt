@@ -147,9 +147,9 @@ judged-LengthMet handles made w (Some r) e =
 
 -- ---- How a run stands ----
 
--- the places of a step, counted from 1, within a word of at most this length
-abbrev pub IsStep : ℕ → ℕ × ℕ → Type 0
-IsStep limit (p, q) = (1 ≤ p) × (p < q) × (q ≤ limit)
+-- Both places of a reduction, counted from 1, are in a word of at most this length.
+abbrev pub HasPlaces : ℕ → ℕ × ℕ → Type 0
+HasPlaces limit (p, q) = (1 ≤ p) × (p < q) × (q ≤ limit)
 
 -- The first word too long: the run has ended before its first turn.
 pub record IsTooLong (w : List Letter) (limit : ℕ) (s : RunState) : Type 0 where
@@ -169,7 +169,7 @@ pub record Stands (w : List Letter) (handles limit t : ℕ) (s : RunState) : Typ
   pub judgement : Judged handles (length s.steps) s.present s.progress
   pub short : (length s.present ≤ limit) ⊎ IsTooLong w limit s
   pub stopped : s.progress ≡ LengthMet → IsTooLong w limit s ⊎ NextTooLong s.present limit
-  pub places : All (IsStep limit) s.steps
+  pub places : All (HasPlaces limit) s.steps
 
 -- before the first turn, by the length of the word
 Stands-begun_by
@@ -190,7 +190,7 @@ Stands-begun_by w handles limit true test =
       judgement = Judged-LengthMet handles 0 w;
       short = inr long;
       stopped = λ e. inl long;
-      places = All-nil (IsStep limit);
+      places = All-nil (HasPlaces limit);
     }
 Stands-begun_by w handles limit false short =
     record {
@@ -199,7 +199,7 @@ Stands-begun_by w handles limit false short =
       judgement = Judged-judged handles 0 w (leftmost_of w) refl (omega arith);
       short = inl (ltb-false _ _ short);
       stopped = λ e. absurd (judged-LengthMet handles 0 w (leftmost_of w) e);
-      places = All-nil (IsStep limit);
+      places = All-nil (HasPlaces limit);
     }
 
 -- before the first turn
@@ -258,7 +258,7 @@ Stands-step w handles limit t s p q next h running found short =
     let ordered : p < q = leftmost.handle.ordered in
     let end : q < length s.present = leftmost.handle.within in
     let fits : length s.present ≤ limit = short_while_running w handles limit t s h running in
-    let places : IsStep limit step = (omega arith, omega arith, omega arith) in
+    let places : HasPlaces limit step = (omega arith, omega arith, omega arith) in
     let n : ℕ = length s.steps + 1 in
     record {
       within = omega arith;
@@ -266,7 +266,7 @@ Stands-step w handles limit t s p q next h running found short =
       judgement = rw made (Judged-judged handles n next (leftmost_of next) refl (omega arith));
       short = inl short;
       stopped = λ e. absurd (judged-LengthMet handles n next (leftmost_of next) e);
-      places = All-push (IsStep limit) s.steps step h.places places;
+      places = All-push (HasPlaces limit) s.steps step h.places places;
     }
 
 -- after one more turn of a running word
@@ -378,20 +378,6 @@ pub run_after-Done
     s.progress ≡ Done sign → HasNoHandle s.present × (sign ≡ sign_of s.present)
 run_after-Done w handles limit t sign = (Stands-run_after w handles limit t).judgement.done sign
 
--- a run that has met the limit on its reductions has made that many
-pub run_after-HandlesMet
-    : (w : List Letter) (handles limit t : ℕ)
-    → let s = run_after w handles limit t in
-    s.progress ≡ HandlesMet → length s.steps ≡ handles
-run_after-HandlesMet w handles limit t = (Stands-run_after w handles limit t).judgement.met
-
--- a run that was stopped by the length: the first word or the next one is too long
-pub run_after-LengthMet
-    : (w : List Letter) (handles limit t : ℕ)
-    → let s = run_after w handles limit t in
-    s.progress ≡ LengthMet → IsTooLong w limit s ⊎ NextTooLong s.present limit
-run_after-LengthMet w handles limit t = (Stands-run_after w handles limit t).stopped
-
 -- the present word is no longer than the limit, unless it is the first word
 pub length-present
     : (w : List Letter) (handles limit t : ℕ)
@@ -405,7 +391,7 @@ length-present w handles limit t = elim (Stands-run_after w handles limit t).sho
 -- the places of each step are within the limit
 pub places-steps
     : (w : List Letter) (handles limit t : ℕ)
-    → All (IsStep limit) (run_after w handles limit t).steps
+    → All (HasPlaces limit) (run_after w handles limit t).steps
 places-steps w handles limit t = (Stands-run_after w handles limit t).places
 
 -- ---- What each reduction keeps ----

@@ -7,7 +7,8 @@ use Rattle.std.proofs.lemmas.Grind.{get_or_default_zero, get_or_after_one}
 use Rattle.wb_base.proofs.JoinLemmas.{join-first}
 use Rattle.laver_table.specs.Table.{row_of, entry, IsUpTo, IsLaver}
 use Rattle.laver_table.proofs.LaverLemmas.{width-laver}
-use Rattle.laver_table.specs.TableText.{spaced_entry, row_line}
+use Rattle.wb_base.specs.Numbers.{spaced_number}
+use Rattle.laver_table.specs.TableText.{row_line}
 
 -- ---- A row ----
 
@@ -28,11 +29,11 @@ pub row_line-parts
     : (row : List ℕ) (x : ℕ)
     → 1 ≤ length row
     → x ≡ slice_index row 0
-    → row_line row ≡ (decimal x ++ flat_map spaced_entry (drop 1 row)) ++ 10 ∷ []
+    → row_line row ≡ (decimal x ++ flat_map spaced_number (drop 1 row)) ++ 10 ∷ []
 unfolding row_line
 row_line-parts row x some is =
     let first : x ≡ get_or row 0 x = is ∙ sym (get_or_default_zero row 0 x some) in
-    ap (λ text. text ++ 10 ∷ []) (join-first decimal row x some first ∙ ap (λ rest. decimal x ++ flat_map spaced_entry rest) (take_rest row 1))
+    ap (λ text. text ++ 10 ∷ []) (join-first decimal row x some first ∙ ap (λ rest. decimal x ++ flat_map spaced_number rest) (take_rest row 1))
 
 -- an entry behind the first one, in a row of a Laver table
 pub found_entry

@@ -2,16 +2,11 @@
 --
 -- Source: this project's own.
 --
---   spaced_entry x      an entry behind a space
 --   row_line row        a row as a line, with its LF
 --   table_text rows     the lines of all rows, from the first on
-use Rattle.std.specs.Prelude.{ℕ, List, ◌∷◌, map, decimal}
+use Rattle.std.specs.Prelude.{ℕ, List, map, decimal}
 use Rattle.std.specs.List.{join_with_byte, flat_map}
 use Rattle.wb_base.specs.Lines.{line}
-
--- An entry behind a space.
-abbrev pub spaced_entry : ℕ → List ℕ
-spaced_entry x = 32 ∷ decimal x
 
 -- A row as a line: `2 4 2 4`, and LF.
 unfoldable pub row_line : List ℕ → List ℕ

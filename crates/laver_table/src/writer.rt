@@ -2,7 +2,8 @@ ghost use Rattle.std.specs.Prelude.{◌≡◌, ◌+◌, ◌*◌, ◌≤◌, OnOk
 ghost use Rattle.std.specs.List.{flat_map};
 ghost use Rattle.wb_base.specs.Streams.{HasCause, Puts};
 ghost use Rattle.laver_table.specs.Table.{row_of, IsUpTo};
-ghost use Rattle.laver_table.specs.TableText.{spaced_entry, row_line, table_text};
+ghost use Rattle.wb_base.specs.Numbers.{spaced_number};
+ghost use Rattle.laver_table.specs.TableText.{row_line, table_text};
 
 use crate::table::Table;
 use std::sync::ledger::Ledger;
@@ -16,9 +17,9 @@ fn put_rest<K: Sink, L: Ledger>(
     steps: &mut Steps<L>,
 ) -> Result<(), Failed>
     requires { IsUpTo (length table.now) p }
-    ensures took { Puts (K.taken sink.old) (K.taken sink.new) result (flat_map spaced_entry (drop 1 (row_of table.now p))) }
+    ensures took { Puts (K.taken sink.old) (K.taken sink.new) result (flat_map spaced_number (drop 1 (row_of table.now p))) }
     ensures cause { HasCause (K.faults sink.old) (K.faults sink.new) result }
-    ensures waits { K.waiting sink.new ≤ K.waiting sink.old + length (flat_map spaced_entry (drop 1 (row_of table.now p))) }
+    ensures waits { K.waiting sink.new ≤ K.waiting sink.old + length (flat_map spaced_number (drop 1 (row_of table.now p))) }
     ensures counted { OnOk result (steps.new + 1 ≡ steps.old + length table.now) }
     ensures at_most { steps.new + 1 ≤ steps.old + length table.now }
 {

@@ -1,5 +1,7 @@
 -- The text of a term.
 --
+-- Source: this project's own.
+--
 --   term_text t   the bytes of t with brackets round each product
 use Rattle.std.specs.Prelude.{ℕ, List, [], ◌∷◌, ◌++◌}
 use Rattle.ld_term.specs.Written.{Written, leaf, named, times}

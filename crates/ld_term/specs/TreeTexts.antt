@@ -1,5 +1,7 @@
 -- The terms that trees are, and the tokens that stand behind a place.
 --
+-- Source: this project's own.
+--
 --   written tree                       the term that a tree is
 --   StartsAtom strict line from depth  behind this place there is an atom that is no higher than this
 --   IsBehind strict line at rest       the tokens behind this place are these

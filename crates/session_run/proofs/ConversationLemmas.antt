@@ -7,6 +7,7 @@ use Rattle.std.specs.List.{onto_first}
 use Rattle.std.proofs.lemmas.Bool.{cases_Bool, cases_eq, eq-eqb, ne_eqb}
 use Rattle.std.proofs.lemmas.List.{append-nil}
 use Rattle.wb_base.specs.Lines.{lines_of}
+use Rattle.wb_base.proofs.LineLemmas.{lines_of-cons}
 use Rattle.session_run.specs.Jobs.{Job}
 use Rattle.session_run.specs.Conversation.{Talk, heard_all, silent, last_answer, answer_to, answers, jobs_after, whole_lines, onto_whole}
 use Rattle.session_run.proofs.TalkLemmas.{heard_all-append, heard-lf, heard-other}
@@ -86,10 +87,6 @@ whole_lines-other x xs other = rw (ne_eqb x 10 other) refl
 lines_of-lf : (x : ℕ) (xs : List ℕ) → x ≡ 10 → lines_of (x ∷ xs) ≡ [] ∷ lines_of xs
 lines_of-lf x xs is = rw (eq-eqb x 10 is) refl
 
--- another byte stands in the first
-lines_of-other : (x : ℕ) (xs : List ℕ) → x ≢ 10 → lines_of (x ∷ xs) ≡ onto_first x (lines_of xs)
-lines_of-other x xs other = rw (ne_eqb x 10 other) refl
-
 -- ---- Heard bytes as lines ----
 
 -- The open line is answered.
@@ -131,7 +128,7 @@ heard_all-lines t (x ∷ xs) = elim (cases_eq x 10) [
       ∙ ap (λ z. z ++ last_line (heard_all (answered t) xs).rest) (sym (ap (onto_lines t.rest) (whole_lines-lf x xs is) ∙ onto_lines-lf t.rest (whole_lines xs)))
       ∙ ap (λ z. onto_lines t.rest (whole_lines (x ∷ xs)) ++ last_line (heard_all z xs).rest) (sym (heard-lf t x is))
   | inr other ↦
-      ap (begun t.rest) (lines_of-other x xs other)
+      ap (begun t.rest) (lines_of-cons x xs other)
       ∙ begun-more t.rest x (lines_of xs)
       ∙ heard_all-lines (longer t x) xs
       ∙ ap (λ z. z ++ last_line (heard_all (longer t x) xs).rest) (sym (ap (onto_lines t.rest) (whole_lines-other x xs other) ∙ onto_lines-more t.rest x (whole_lines xs)))
@@ -157,7 +154,7 @@ heard_all-answered t (x ∷ xs) = elim (cases_eq x 10) [
   | inr other ↦
       ap (λ z. ended_text (heard_all z xs)) (heard-other t x other)
       ∙ heard_all-answered (longer t x) xs
-      ∙ ap (λ z. t.text ++ answers t.jobs z) (sym (ap (begun t.rest) (lines_of-other x xs other) ∙ begun-more t.rest x (lines_of xs)))
+      ∙ ap (λ z. t.text ++ answers t.jobs z) (sym (ap (begun t.rest) (lines_of-cons x xs other) ∙ begun-more t.rest x (lines_of xs)))
 ]
 
 -- what was given since nothing was heard

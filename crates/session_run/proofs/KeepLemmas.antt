@@ -2,7 +2,6 @@
 use Rattle.std.proofs.Common.{◌≡◌, ◌≢◌, ℕ, true, false, List, [], ◌∷◌, ◌++◌, Option, Some, None, is_some, refl, ap, sym, subst, ◌∙◌, inl, inr, true≢false, get_or}
 use Rattle.std.proofs.lemmas.Bool.{cases_Bool}
 use Rattle.std.proofs.lemmas.Map.Keys.{IsDistinct-head, IsDistinct-tail}
-use Rattle.std.proofs.lemmas.Slice.Eq.{bytes_eq-Decides}
 use Rattle.std.specs.List.{AllByRecursion, IsDistinct}
 use Rattle.std.specs.Map.{keys_of, lookup, remove_entry}
 use Rattle.std.specs.Str.{bytes_eq}
@@ -10,21 +9,11 @@ use Rattle.indexmap.specs.IndexMap.{IndexMap, insert_entry}
 use Rattle.indexmap.proofs.CallerLemmas.{insert_entry-new}
 use Rattle.slab.specs.Slab.{Slab, get, Updates, with_value}
 use Rattle.slab.proofs.SlabLemmas.{Updates-with_value}
-use Rattle.wb_base.proofs.NameLemmas.{same_name, same_name-true, same_name-self}
+use Rattle.wb_base.proofs.NameLemmas.{same_name, same_name-true, same_name-self, same_name-bytes}
 use Rattle.session_run.specs.Jobs.{Job, is_of, more_turns, find_job, turn_job, close_job}
 use Rattle.session_run.specs.Keeping.{HasJob, jobs_of, Keeps, IsKept}
 
 -- ---- Names ----
-
--- both comparisons of names are one
-pub same_name-bytes : (a b : List ℕ) → same_name a b ≡ bytes_eq a b
-same_name-bytes a b = elim (cases_Bool (same_name a b)) [
-  | inl same ↦ same ∙ sym ((bytes_eq-Decides a b).1 (same_name-true a b same))
-  | inr other ↦ elim (cases_Bool (bytes_eq a b)) [
-    | inl same ↦ absurd (true≢false (sym (subst (λ z. same_name a z ≡ true) ((bytes_eq-Decides a b).0 same) (same_name-self a)) ∙ other))
-    | inr differs ↦ other ∙ sym differs
-  ]
-]
 
 -- names that differ by one differ by the other
 pub distinct_bytes : (names : List (List ℕ)) → IsDistinct same_name names → IsDistinct bytes_eq names

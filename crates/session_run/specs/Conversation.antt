@@ -1,5 +1,7 @@
 -- What answers an input: each line by itself, at the jobs that the lines before it have left.
 --
+-- Source: this project's own.
+--
 --   jobs_after jobs line     the jobs behind a line; a line that is no command changes nothing
 --   answer_to jobs line      the text that answers a line
 --   answers jobs lines       the text that answers lines, the first first

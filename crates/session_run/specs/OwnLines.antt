@@ -1,5 +1,7 @@
 -- What the lines of one name make of its job.
 --
+-- Source: this project's own.
+--
 --   own_turns name cs     the sum of the turns of this name
 --   ClosesNone name cs    no command closes this name
 --   own_lines name cs     the commands on this name

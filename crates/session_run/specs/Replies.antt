@@ -1,5 +1,7 @@
 -- The replies of a session to commands.
 --
+-- Source: this project's own.
+--
 --   line_of j               what is said of the state of a job
 --   reply_to jobs c         the reply to a command at these jobs
 --   replies jobs cs         the replies to commands, the first first

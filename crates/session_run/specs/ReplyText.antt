@@ -1,5 +1,7 @@
 -- The texts of replies.
 --
+-- Source: this project's own.
+--
 --   state_text j             the line of a state
 --   reply_text jobs reply    the lines of a reply, where these jobs are open behind it
 --   CanPut jobs reply        a reply that a session may give while these jobs are open

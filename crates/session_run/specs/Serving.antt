@@ -1,5 +1,7 @@
 -- What a session over streams has read and given when it ends.
 --
+-- Source: this project's own.
+--
 --   settled front               the bytes taken, the last 4,096 of these left out
 --   told left                   the bytes that a source has left, as far as it tells them
 --   IsCutOff front later given  the text ends within the answer, at a fault of the sink

@@ -1,18 +1,8 @@
 -- Names of terms, and the map that has their numbers.
-use Rattle.std.proofs.Common.{◌≡◌, ℕ, true, false, List, [], ◌∷◌, Option, Some, None, is_some, refl, subst, true≢false}
-use Rattle.std.proofs.lemmas.Bool.Decides.{same_from_decides}
-use Rattle.std.proofs.lemmas.Slice.Eq.{bytes_eq-Decides}
+use Rattle.std.proofs.Common.{◌≡◌, ℕ, false, List, [], ◌∷◌, Option, Some, None, is_some, refl, true≢false}
 use Rattle.std.specs.Map.{lookup}
-use Rattle.std.specs.Str.{bytes_eq}
-use Rattle.wb_base.proofs.NameLemmas.{same_name, same_name-true, same_name-self}
+use Rattle.wb_base.proofs.NameLemmas.{same_name, same_name-bytes}
 use Rattle.term_graph.specs.NameLists.{number_of}
-
--- both comparisons of names are one
-same_name-bytes : (a b : List ℕ) → same_name a b ≡ bytes_eq a b
-same_name-bytes a b =
-    same_from_decides (same_name a b) (bytes_eq a b)
-    (same_name-true a b, λ one. subst (λ z. same_name a z ≡ true) one (same_name-self a))
-    (bytes_eq-Decides a b)
 
 -- the number of a name is what the map has under it
 pub number_of-lookup

@@ -3,6 +3,8 @@
 -- A graph keeps its products as pairs of numbers: the pair at place k, counted from 0, has the numbers of the
 -- parts of number k + 1. Beside them stand the trees and their numbers.
 --
+-- Source: this project's own.
+--
 --   term_of node          the term that a tree is
 --   terms_of entries      the terms of a graph's entries
 --   IsEntry e             an entry's height, leaves and length are those of its tree

@@ -1,5 +1,7 @@
 -- The whole lines of some bytes, and what stands behind the last LF.
 --
+-- Source: this project's own.
+--
 --   cut bytes   the lines that end with LF, each without it, and the rest
 use Rattle.std.specs.Prelude.{ℕ, ◌==◌, if◌then◌else◌, List, [], ◌∷◌}
 

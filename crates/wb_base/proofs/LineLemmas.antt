@@ -8,7 +8,7 @@ use Rattle.std.proofs.lemmas.Bool.{ne_eqb}
 use Rattle.wb_base.specs.Lines.{lines_of, line}
 
 -- a byte that is no LF goes in front of the first line
-lines_of-cons : (b : ℕ) (bytes : List ℕ) → b ≢ 10 → lines_of (b ∷ bytes) ≡ onto_first b (lines_of bytes)
+pub lines_of-cons : (b : ℕ) (bytes : List ℕ) → b ≢ 10 → lines_of (b ∷ bytes) ≡ onto_first b (lines_of bytes)
 lines_of-cons b bytes other = rw (ne_eqb b 10 other) refl
 
 -- the first line ends at the first LF

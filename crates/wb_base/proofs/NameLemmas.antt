@@ -1,13 +1,17 @@
 -- How names lie in memory, and when two are equal.
 --
 -- Each name lies in 32 bytes in one way (`stored-new`). So the derived comparison, which goes over the 32
--- bytes and the lengths, holds exactly of equal names (`same_name-true`, `same_name-self`).
-use Rattle.std.proofs.Common.{◌&&◌, ◌∙◌, Bool, ◌≡◌, ℕ, ◌-◌, ◌≤◌, nat_lt, true, List, [], ◌∷◌, ◌++◌, length, take, drop, replicate, refl, sym, arith, length-append}
+-- bytes and the lengths, holds exactly of equal names (`same_name-true`, `same_name-self`), as that of
+-- their bytes does (`same_name-bytes`).
+use Rattle.std.proofs.Common.{◌&&◌, ◌∙◌, Bool, ◌≡◌, ℕ, ◌-◌, ◌≤◌, nat_lt, true, List, [], ◌∷◌, ◌++◌, length, take, drop, replicate, refl, sym, subst, arith, length-append}
 use Rattle.std.proofs.lemmas.List.{take-append-le, length-replicate, drop-replicate}
 use Rattle.std.proofs.Math.Seq.{take-length}
 use Rattle.std.proofs.lemmas.Bool.{and_parts, and_from, ltb-true, eqb-true, eq-eqb}
+use Rattle.std.proofs.lemmas.Bool.Decides.{same_from_decides}
+use Rattle.std.proofs.lemmas.Slice.Eq.{bytes_eq-Decides}
 use Rattle.std.proofs.Math.Dec.{eqb}
 use Rattle.std.specs.Char.{is_ascii_lowercase}
+use Rattle.std.specs.Str.{bytes_eq}
 use lib.Pointwise.{pointwise, bytes_decides}
 use Rattle.wb_base.specs.Names.{is_name, padded, IsStored}
 
@@ -56,3 +60,10 @@ same_name-true a b same =
 -- it holds of a name and itself
 pub same_name-self : (a : List ℕ) → same_name a a ≡ true
 same_name-self a = and_from _ _ ((bytes_decides (padded a) (padded a)).1 refl) (eq-eqb (length a) (length a) refl)
+
+-- so it is the comparison of their bytes
+pub same_name-bytes : (a b : List ℕ) → same_name a b ≡ bytes_eq a b
+same_name-bytes a b =
+    same_from_decides (same_name a b) (bytes_eq a b)
+    (same_name-true a b, λ one. subst (λ z. same_name a z ≡ true) one (same_name-self a))
+    (bytes_eq-Decides a b)

@@ -2,6 +2,8 @@
 --
 -- The lines are the pieces between bytes LF, without a last piece that is empty. So an empty text has no
 -- line, and one LF is one empty line.
+--
+-- Source: this project's own.
 use Rattle.std.specs.Prelude.{ℕ, ◌==◌, if◌then◌else◌, List, [], ◌∷◌, ◌++◌}
 use Rattle.std.specs.List.{onto_first}
 

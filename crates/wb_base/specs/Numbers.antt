@@ -2,9 +2,12 @@
 --
 -- A number is written in one way: its digits, without a leading zero.
 --
+-- Source: this project's own.
+--
 --   digits_in_front bytes    the longest run of digits that the bytes begin with
 --   is_canonical run         whether a run of digits is the text of a number
 --   number_at bytes          the number that the bytes begin with, and the length of its text
+--   spaced_number n          the text of n, behind a space
 --   signed_text negative n   the text of n, behind a minus sign where it is negative
 use Rattle.std.specs.Prelude.{ℕ, ◌^◌, ◌&&◌, ◌==◌, Bool, true, false, not, nat_lt, if◌then◌else◌, List, [], ◌∷◌, ◌++◌, length, decimal, take_while, Option, Some, None}
 use Rattle.std.specs.Char.{is_ascii_digit}
@@ -23,6 +26,10 @@ is_canonical (d ∷ (e ∷ ds)) = not (d == 48)
 -- The number that a run of digits writes, below 2^64, and the length of the run.
 abbrev pub number_of : List ℕ → Option (ℕ × ℕ)
 number_of run = if is_canonical run && nat_lt (digits_value 10 run) (2 ^ 64) then Some (digits_value 10 run, length run) else None
+
+-- A number behind a space.
+abbrev pub spaced_number : ℕ → List ℕ
+spaced_number n = 32 ∷ decimal n
 
 -- The number in front and how many digits it has: of `102 7` they are 102 and 3, and `01` has none.
 abbrev pub number_at : List ℕ → Option (ℕ × ℕ)

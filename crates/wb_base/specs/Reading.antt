@@ -1,4 +1,6 @@
 -- How many bytes a refused reading has taken.
+--
+-- Source: this project's own.
 use Rattle.std.specs.Prelude.{ℕ, ◌+◌, ◌≤◌, List, Option}
 use Rattle.wb_base.specs.Streams.{Skips}
 use Rattle.wb_base.specs.declared.whole.ReadErr.{ReadErr}

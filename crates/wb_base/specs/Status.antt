@@ -1,4 +1,6 @@
 -- The program's statuses as exit codes.
+--
+-- Source: this project's own.
 use Rattle.std.specs.Prelude.{ℕ}
 use Rattle.wb_base.specs.declared.status.Status.{Status}
 use Rattle.wb_base.specs.declared.status.Status.TheVariants.{Done, Refused, Words, Input, Limit, ReadFault, WriteFault, Memory}

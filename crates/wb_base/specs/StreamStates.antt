@@ -1,4 +1,6 @@
 -- What the sources and sinks of this crate are seen as.
+--
+-- Source: this project's own.
 use Rattle.std.specs.Prelude.{ℕ, ◌<◌, ◌≤◌, ◌==◌, Bool, List, length, Option}
 use Rattle.std.specs.List.{list_any}
 

@@ -101,7 +101,7 @@ IsSteps-run_after w handles limit t small = Leads-turns w handles limit t small
 IsStepLine-placed
     : (limit : ℕ) (s : ℕ × ℕ)
     → limit ≤ MAX_LETTERS
-    → runs.IsStep limit s
+    → runs.HasPlaces limit s
     → IsStepLine (handle_step s)
 IsStepLine-placed limit (p, q) small (low, ordered, within) =
     ((omega arith, omega arith), (omega arith, omega arith))
@@ -115,7 +115,7 @@ IsStepLine-steps w handles limit t small =
     let steps : List (ℕ × ℕ) = (run_after w handles limit t).steps in
     recursion_from_All IsStepLine _
     (All-map IsStepLine handle_step steps
-    (All-weaker (runs.IsStep limit) _ (λ s placed. IsStepLine-placed limit s small placed) steps
+    (All-weaker (runs.HasPlaces limit) _ (λ s placed. IsStepLine-placed limit s small placed) steps
     (runs.places-steps w handles limit t)))
 
 -- a run that hasn't met the length has begun with a word within its limit

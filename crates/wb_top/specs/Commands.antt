@@ -1,5 +1,7 @@
 -- The command that the words of a command line are.
 --
+-- Source: this project's own.
+--
 --   number_of low high word   the number of a command word, if it is within these bounds
 --   address_of word           the address that a command word is, if it is one
 --   command_of words          the command, if the words are one

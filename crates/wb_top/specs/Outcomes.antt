@@ -1,4 +1,6 @@
 -- The answer that an outcome is written as.
+--
+-- Source: this project's own.
 use Rattle.std.specs.Prelude.{ℕ, Bool, true, false, List, codes, decimal, map}
 use Rattle.wb_base.specs.Lines.{line}
 use Rattle.wb_base.specs.declared.status.Status.TheVariants.{Done}

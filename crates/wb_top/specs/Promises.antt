@@ -1,5 +1,7 @@
 -- What the text of a command that is done says of its input.
 --
+-- Source: this project's own.
+--
 --   HasVerdict input text          it is an accepted trace of the two words of the input
 --   HasTermVerdict input text      it is an accepted trace of the two terms of the input
 --   IsChecked input text           the input is an accepted trace, and the text its verdict

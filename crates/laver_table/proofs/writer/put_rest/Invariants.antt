@@ -2,13 +2,13 @@
 use Rattle.std.proofs.Common.{◌≡◌, ◌+◌, ◌≤◌, length, take, drop, flat_map}
 use Rattle.std.specs.Io.KnownBytes.{append_known}
 use Rattle.laver_table.specs.Table.{row_of}
-use Rattle.laver_table.specs.TableText.{spaced_entry}
+use Rattle.wb_base.specs.Numbers.{spaced_number}
 use Rattle.laver_table.proofs.writer.put_rest.Given as goal
 
 abbrev pub invariant-loop-k : goal.invariant-loop-k
 invariant-loop-k g l =
     let sink = g.K.Sink in
-    let given = flat_map spaced_entry (take l.k (drop 1 (row_of l.table l.p))) in
+    let given = flat_map spaced_number (take l.k (drop 1 (row_of l.table l.p))) in
     record {
       took : sink.taken l.sink ≡ append_known (sink.taken l.fn.sink) given;
       later : sink.faults l.fn.sink ≤ sink.faults l.sink;
