@@ -10,3 +10,4 @@ pub mod AcceptedLemmas
 pub mod RefusalLaws
 pub mod TermLemmas
 pub mod LimitFacts
+pub mod CheckFacts

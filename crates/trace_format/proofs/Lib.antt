@@ -3,3 +3,4 @@ pub mod FieldLemmas
 pub mod TermFieldLemmas
 pub mod LineLaws
 pub mod TraceLaws
+pub mod TraceFacts
