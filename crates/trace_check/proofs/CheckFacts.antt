@@ -24,16 +24,12 @@ quotient_word = letter 2 true ∷ letter 1 true ∷ letter 2 false ∷ letter 1 
 abbrev reduced_word : List Letter
 reduced_word = letter 2 true ∷ letter 2 false ∷ letter 1 false ∷ letter 2 true ∷ []
 
--- places count from 1
-handle_row : stepped quotient_word (Handle 2 4) ≡ Ok reduced_word
+-- places count from 1; `-1 2` is no handle, nor is `-2 -1 2`, in which 1 is below 2, and none ends behind the word
+handle_rows
+    : map (stepped quotient_word) (Handle 2 4 ∷ Handle 2 3 ∷ Handle 1 3 ∷ Handle 2 5 ∷ [])
+    ≡ Ok reduced_word ∷ Err Step ∷ Err Step ∷ Err Step ∷ []
 unfolding reduct xor
-handle_row = refl
-
--- `-1 2` is no handle, nor is `-2 -1 2`, in which 1 is below 2, and none ends behind the word
-no_handle_rows
-    : map (stepped quotient_word) (Handle 2 3 ∷ Handle 1 3 ∷ Handle 2 5 ∷ []) ≡ Err Step ∷ Err Step ∷ Err Step ∷ []
-unfolding reduct xor
-no_handle_rows = refl
+handle_rows = refl
 
 -- it need not be the leftmost handle: `2 -2 1 -1` at 3 and 4
 later_handle_row
@@ -48,15 +44,14 @@ commute_rows
     ≡ Ok (letter 2 false ∷ letter 3 true ∷ letter 1 false ∷ []) ∷ Err Step ∷ Err Step ∷ []
 commute_rows = refl
 
--- `2 -1 -2 -1` becomes `2 -2 -1 -2`; `2 -1 -2` has two signs, and from 3 on there are two letters alone
+-- `-1 -2 -1` becomes `-2 -1 -2`; `2 -1 -2` has two signs, -1 and -3 are too far apart, and `-3 -1` are two letters
 swap_rows
-    : map (stepped (letter 2 false ∷ letter 1 true ∷ letter 2 true ∷ letter 1 true ∷ [])) (Swap 2 ∷ Swap 1 ∷ Swap 3 ∷ [])
-    ≡ Ok (letter 2 false ∷ letter 2 true ∷ letter 1 true ∷ letter 2 true ∷ []) ∷ Err Step ∷ Err Step ∷ []
+    : map
+    (stepped (letter 2 false ∷ letter 1 true ∷ letter 2 true ∷ letter 1 true ∷ letter 3 true ∷ letter 1 true ∷ []))
+    (Swap 2 ∷ Swap 1 ∷ Swap 4 ∷ Swap 5 ∷ [])
+    ≡ Ok (letter 2 false ∷ letter 2 true ∷ letter 1 true ∷ letter 2 true ∷ letter 3 true ∷ letter 1 true ∷ [])
+    ∷ Err Step ∷ Err Step ∷ Err Step ∷ []
 swap_rows = refl
-
--- `1 3 1` is no side of a braid relation
-far_swap_row : stepped (letter 1 false ∷ letter 3 false ∷ letter 1 false ∷ []) (Swap 1) ≡ Err Step
-far_swap_row = refl
 
 -- `1 1 -1` becomes `1`, and two equal letters stay
 delete_rows
@@ -71,13 +66,13 @@ insert_rows
 insert_rows = refl
 
 -- a step may lead to 100,000 letters, and to no more
-long_row : stepped (replicate 99999 (letter 1 false)) (Insert 1 (letter 2 false)) ≡ Err Long
-long_row = refl
-
 longest_row
     : stepped (replicate 99998 (letter 1 false)) (Insert 1 (letter 2 false))
     ≡ Ok (letter 2 false ∷ letter 2 true ∷ replicate 99998 (letter 1 false))
 longest_row = refl
+
+long_row : stepped (replicate 99999 (letter 1 false)) (Insert 1 (letter 2 false)) ≡ Err Long
+long_row = refl
 
 -- two reductions lead from the quotient to `1 -2`
 between : (k : ℕ) → 1 < k → k < 3 → 1 < (at quotient_word k).index
@@ -154,21 +149,17 @@ terms_row
 unfolding checked_of kept line_of strict_term_of reduct xor
 terms_row = refl
 
--- line 4 of the trace of `1 2` and `2 1`: no handle, and a place with a leading zero
-step_rows
-    : map (λ step. checked_of (codes "braid-trace 1\nleft 1 2\nright 2 1\n" ++ step)) (codes "h 2 3\n" ∷ (codes "h 02 4\n" ∷ []))
-    ≡ Err (4, Step) ∷ Err (4, Form) ∷ []
+-- that of `1 2` and `2 1` with line 4 changed, to no handle and to a place with a leading zero, with the wrong
+-- verdict, and with a witness that isn't come to, though its sign is right
+refused_rows
+    : map
+    (λ others. checked_of (codes "braid-trace 1\nleft 1 2\nright 2 1\n" ++ others))
+    (codes "h 2 3\n" ∷ (codes "h 02 4\n" ∷ (codes "h 2 4\nh 1 2\nverdict greater\nwitness 1 -2\nend\n" ∷ (codes "h 2 4\nh 1 2\nverdict less\nwitness 1\nend\n" ∷ []))))
+    ≡ Err (4, Step) ∷ Err (4, Form) ∷ Err (7, Sign) ∷ Err (7, Witness) ∷ []
 unfolding checked_of kept line_of strict_word_of reduct xor
-step_rows = refl
+refused_rows = refl
 
--- its witness with the wrong verdict, and a witness that isn't come to, though its sign is right
-witness_rows
-    : map (λ ending. checked_of (codes "braid-trace 1\nleft 1 2\nright 2 1\nh 2 4\nh 1 2\n" ++ ending)) (codes "verdict greater\nwitness 1 -2\n" ∷ (codes "verdict less\nwitness 1\n" ∷ []))
-    ≡ Err (7, Sign) ∷ Err (7, Witness) ∷ []
-unfolding checked_of kept line_of strict_word_of reduct xor
-witness_rows = refl
-
--- a mixed witness gives no verdict, and where it also isn't come to, that is said
+-- a mixed witness goes with no verdict; another one isn't the present word, which is said first
 mixed_rows
     : map (λ witness. checked_of (codes "braid-trace 1\nleft 1\nright 1\nverdict equal\n" ++ witness)) (codes "witness -1 1\n" ∷ (codes "witness 1 -1\n" ∷ []))
     ≡ Err (5, Sign) ∷ Err (5, Witness) ∷ []
@@ -188,19 +179,6 @@ unfolding kept line_of
 header_row = record {
   before = codes "braid-trace 1" ∷ [];
   others = codes "right" ∷ (codes "end" ∷ []);
-  last = due.Left;
-  lines = refl;
-  number = refl;
-  kept = (due.Left, refl, refl);
-  refused = refl;
-}
-
--- where the left line is missing, the file is truncated there
-missing_row : IsFirstRefusal (codes "braid-trace 1\n") 2 Truncated
-unfolding kept
-missing_row = record {
-  before = codes "braid-trace 1" ∷ [];
-  others = [];
   last = due.Left;
   lines = refl;
   number = refl;

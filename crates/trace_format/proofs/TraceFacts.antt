@@ -1,5 +1,5 @@
 -- Worked rows of the texts of traces, of what their lines say, and of verdicts.
-use Rattle.std.proofs.Common.{◌≡◌, ℕ, zero, suc, true, false, List, [], ◌∷◌, map, codes, Some, None, Ok, Err, refl, arith}
+use Rattle.std.proofs.Common.{◌≡◌, ℕ, zero, suc, true, false, [], ◌∷◌, map, codes, Some, None, Ok, Err, refl, arith}
 use Rattle.std.specs.Fmt.{digits}
 use Rattle.braid_word.specs.Words.{letter, quotient}
 use Rattle.braid_word.specs.Sign.{sign_of}
