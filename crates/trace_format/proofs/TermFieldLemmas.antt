@@ -2,7 +2,7 @@
 --
 -- What is read there is a space and the strict text of a term that isn't too large (`field_term-is`), and the
 -- strict text of such a term is read (`field_term-strict_text`).
-use Rattle.std.proofs.Common.{◌≡◌, inl, inr, ℕ, ◌+◌, ◌-◌, ◌<◌, ◌≤◌, ◌||◌, Bool, true, false, cond, ltb, List, [], ◌∷◌, ◌++◌, length, take, drop, Option, Some, None, Result, Ok, Err, refl, sym, ap, ap₂, ◌∙◌, subst, arith}
+use Rattle.std.proofs.Common.{◌≡◌, inl, inr, ℕ, ◌+◌, ◌-◌, ◌<◌, ◌≤◌, ◌||◌, Bool, true, false, cond, ltb, List, [], ◌∷◌, length, take, drop, Option, Some, None, Ok, Err, refl, sym, ap, ap₂, ◌∙◌, subst, arith}
 use Rattle.std.proofs.lemmas.Bool.{cases_lt, le-ltb, lt-ltb, ltb-false}
 use Rattle.std.proofs.lemmas.List.{take_all}
 use Rattle.std.proofs.lemmas.List.Elements.{All-nil, All-cons, All-append}
@@ -16,7 +16,6 @@ use Rattle.ld_term.specs.declared.TheConstants.{MAX_PRODUCTS}
 use Rattle.ld_term.proofs.StrictLemmas.{as_term-as_written, written_height-as_written, written_products-as_written}
 use Rattle.ld_term.proofs.StrictReadingLemmas.{strict_term_of-is, strict_term_of-strict_text}
 use Rattle.trace_format.specs.TraceLines.{IsShortTerm, short_term, field_term}
-use Rattle.trace_format.specs.declared.line.LineErr.{LineErr}
 use Rattle.trace_format.specs.declared.line.LineErr.TheVariants.{Long}
 use Rattle.trace_format.proofs.FieldLemmas.{IsBehind}
 
