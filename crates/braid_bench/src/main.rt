@@ -3,7 +3,6 @@
 //! It makes the standard streams, and leaves all else to `wb_top::run`.
 #![tactic(auto)]
 
-use std::alloc::Global;
 use std::process::ExitCode;
 use std::{env, io};
 use wb_base::{StdSink, StdSource};

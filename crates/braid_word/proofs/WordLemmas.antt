@@ -1,13 +1,16 @@
--- Laws of braid words: facts about each and some letter, inverses, words on n strands.
+-- Laws of braid words: facts about each and some letter, inverses, words on n strands, and the first letter
+-- that isn't on them.
 --
 -- A fact about the letters of a word is taken apart and put together at `++` and at `inverse`. The
 -- inverse of a product is the product of the inverses, the other way round (`inverse-append`), and
 -- inverting twice changes nothing (`inverse-inverse`).
-use Rattle.std.proofs.Common.{ℕ, ◌≡◌, Bool, true, false, not, ◌⊎◌, inl, inr, ◌+◌, ◌≤◌, List, [], ◌∷◌, ◌++◌, refl, sym, ap, append_assoc, append-nil, length, length-append, map, reverse, arith}
+use Rattle.std.proofs.Common.{ℕ, zero, suc, ◌≡◌, Bool, true, false, not, cond, ltb, ◌⊎◌, inl, inr, ◌+◌, ◌<◌, ◌≤◌, List, [], ◌∷◌, ◌++◌, Some, None, refl, sym, ap, subst, append_assoc, append-nil, length, length-append, take, get_or, map, reverse, arith}
+use Rattle.std.specs.List.{position_or_len}
+use Rattle.std.proofs.lemmas.Bool.{lt-ltb, le-ltb, ltb-true, ltb-false}
 use Rattle.std.proofs.lemmas.List.{map-append, reverse-append}
 use Rattle.std.proofs.Math.Bool.{not-not}
 use mathlib.Core.Path.{◌≡⟨◌⟩◌, ◌∎}
-use Rattle.braid_word.specs.Words.{Letter, letter, opposite, inverse, quotient, EachLetter, SomeLetter, IsWord, IsOn}
+use Rattle.braid_word.specs.Words.{Letter, letter, opposite, inverse, quotient, EachLetter, SomeLetter, IsWord, IsOn, first_outside}
 
 -- ---- Each letter ----
 
@@ -72,36 +75,6 @@ some_left P (x ∷ u) v (inr s) = inr (some_left P u v s)
 pub some_right : (P : Letter → Type 0) (u v : List Letter) → SomeLetter P v → SomeLetter P (u ++ v)
 some_right P [] v s = s
 some_right P (x ∷ u) v s = inr (some_right P u v s)
-
--- a letter of u ++ v is one of u or one of v
-pub some_append
-    : (P : Letter → Type 0) (u v : List Letter)
-    → SomeLetter P (u ++ v)
-    → SomeLetter P u ⊎ SomeLetter P v
-some_append P [] v s = inr s
-some_append P (x ∷ u) v (inl p) = inl (inl p)
-some_append P (x ∷ u) v (inr s) = elim (some_append P u v s) [ inl l ↦ inl (inr l) | inr r ↦ inr r ]
-
--- what follows from a fact about some letter holds of some letter
-pub some_weaker
-    : (P Q : Letter → Type 0)
-    → ((x : Letter) → P x → Q x)
-    → (u : List Letter)
-    → SomeLetter P u
-    → SomeLetter Q u
-some_weaker P Q f [] s = absurd s
-some_weaker P Q f (x ∷ u) (inl p) = inl (f x p)
-some_weaker P Q f (x ∷ u) (inr s) = inr (some_weaker P Q f u s)
-
--- a letter of which P holds is one of which Q holds too, where Q holds of each letter
-pub some_both
-    : (P Q : Letter → Type 0) (u : List Letter)
-    → SomeLetter P u
-    → EachLetter Q u
-    → SomeLetter (λ x. P x × Q x) u
-some_both P Q [] s q = absurd s
-some_both P Q (x ∷ u) (inl p) q = inl (p, q.0)
-some_both P Q (x ∷ u) (inr s) q = inr (some_both P Q u s q.1)
 
 -- what holds of the inverse of some letter holds of some letter of the inverse
 pub some_inverse
@@ -220,3 +193,68 @@ on_some (x ∷ u) p = on_some_cons x u p.0 (on_some u p.1)
         → (n : ℕ) × IsOn n (x ∷ u)
     on_some_cons x u low (n, on) =
         (n + x.index + 1, ((low, omega arith), on_more n (n + x.index + 1) (omega arith) u on))
+
+-- ---- The first letter that isn't on so many strands ----
+
+-- the test for such a letter
+abbrev is_outside : ℕ → Letter → Bool
+is_outside n x = not (ltb x.index n)
+
+-- where all are on so many strands, there is none
+position-on : (n : ℕ) (w : List Letter) → IsOn n w → position_or_len (is_outside n) w ≡ length w
+position-on n [] on = refl
+position-on n (x ∷ w) on = rw (lt-ltb x.index n on.0.1) (let rest = position-on n w on.1 in omega arith)
+
+pub first_outside-on : (n : ℕ) (w : List Letter) → IsOn n w → first_outside n w ≡ None
+first_outside-on n w on = rw (position-on n w on, le-ltb (length w) (length w) (omega arith)) refl
+
+-- one whose index is n or more, where those before it are on n strands
+position-here
+    : (n k : ℕ) (w : List Letter) (d : Letter)
+    → k < length w
+    → IsOn n (take k w)
+    → n ≤ (get_or w k d).index
+    → position_or_len (is_outside n) w ≡ k
+position-here n k [] d within on high = absurd (omega (arith, within))
+position-here n zero (x ∷ w) d within on high = rw (le-ltb x.index n high) refl
+position-here n (suc k) (x ∷ w) d within on high =
+    rw (lt-ltb x.index n on.0.1) (let rest = position-here n k w d (omega (arith, within)) on.1 high in omega arith)
+
+pub first_outside-here
+    : (n k : ℕ) (w : List Letter) (x d : Letter)
+    → k < length w
+    → x ≡ get_or w k d
+    → IsOn n (take k w)
+    → n ≤ x.index
+    → first_outside n w ≡ Some k
+first_outside-here n k w x d within is on high =
+    rw (position-here n k w d within on (subst (λ z. n ≤ z.index) is high), lt-ltb k (length w) within) refl
+
+-- letters that are on some strands, and of which none is outside of n, are on n
+on-position
+    : (n more : ℕ) (w : List Letter)
+    → IsOn more w
+    → length w ≤ position_or_len (is_outside n) w
+    → IsOn n w
+on-position n more [] on past = tt
+on-position n more (x ∷ w) on past = go (ltb x.index n) refl (on-position n more w on.1)
+  where
+    go
+        : (low : Bool)
+        → ltb x.index n ≡ low
+        → (length w ≤ position_or_len (is_outside n) w → IsOn n w)
+        → IsOn n (x ∷ w)
+    go true low rest = ((on.0.0, ltb-true x.index n low), rest (let more = rw low at past in omega arith))
+    go false high rest = absurd (let more = rw high at past in omega arith)
+
+-- a place that is none is past the end
+none-past : (k n : ℕ) → cond (ltb k n) (Some k) None ≡ None → n ≤ k
+none-past k n none = go (ltb k n) refl none
+  where
+    go : (within : Bool) → ltb k n ≡ within → cond within (Some k) None ≡ None → n ≤ k
+    go true test none = absurd (cc)
+    go false test none = ltb-false k n test
+
+pub on-first_outside : (n more : ℕ) (w : List Letter) → IsOn more w → first_outside n w ≡ None → IsOn n w
+on-first_outside n more w on none =
+    on-position n more w on (none-past (position_or_len (is_outside n) w) (length w) none)

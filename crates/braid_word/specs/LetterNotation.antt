@@ -1,8 +1,8 @@
 -- Letters as bytes: lines that begin with a letter of the alphabet, and the letter that each byte is.
 --
--- A line whose first byte that isn't a space is one of `A` to `Z` or `a` to `z` is in letter notation.
--- There each byte that isn't a space is a piece. Places count the bytes of a line from 1, and a space is
--- the byte 32.
+-- Where the first byte behind the leading spaces is in the alphabet, large or small, the line is in letter
+-- notation, and each of its bytes but the spaces is a piece. Places count the bytes of a line from 1, and a
+-- space is the byte 32.
 -- Source: the usual notation of small letters for the first generators, and capitals for their inverses.
 --
 --   first_byte line            the first byte that isn't a space

@@ -15,9 +15,11 @@
 --   SomeLetter P w    P holds of some letter of w
 --   IsWord w          every index of w is at least 1
 --   IsOn n w          w is a word on n strands: every index is at least 1 and below n
+--   first_outside n w the place of the first letter of w that isn't on n strands
 --
 -- The laws stand in `proofs/WordLemmas.antt`.
-use Rattle.std.specs.Prelude.{ℕ, ◌+◌, ◌<◌, ◌≤◌, Bool, not, List, [], ◌∷◌, ◌++◌, ◌⊎◌, map}
+use Rattle.std.specs.Prelude.{ℕ, ◌+◌, ◌<◌, ◌≤◌, Bool, not, nat_lt, List, [], ◌∷◌, ◌++◌, ◌⊎◌, map, Option}
+use Rattle.std.specs.List.{position}
 
 -- ---- Letters ----
 
@@ -68,3 +70,7 @@ IsWord = EachLetter (λ x. 1 ≤ x.index)
 -- A word on n strands, whose generators are s_1 to s_(n - 1).
 abbrev pub IsOn : ℕ → List Letter → Type 0
 IsOn n = EachLetter (λ x. (1 ≤ x.index) × (x.index < n))
+
+-- The place, counted from 0, of the first letter whose index is n or more: of `1 3 4` on 3 strands it is 1.
+abbrev pub first_outside : ℕ → List Letter → Option ℕ
+first_outside n w = position (λ (x : Letter). not (nat_lt x.index n)) w

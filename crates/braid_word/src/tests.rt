@@ -1,6 +1,6 @@
 use crate::{
-    Letter, MAX_LETTERS, Sign, Word, WordErr, inverse, put_word, quotient, read_strict_word,
-    read_word, sign_of,
+    Letter, MAX_LETTERS, Sign, Word, WordErr, first_outside, inverse, put_word, quotient,
+    read_strict_word, read_word, sign_of,
 };
 use std::alloc::Global;
 use std::test::Fail;
@@ -90,7 +90,7 @@ fn reads_the_strict_spelling_and_no_other(rt: HostRuntime) -> Result<(), Fail> {
 }
 
 #[test]
-fn inverts_and_divides(rt: HostRuntime) -> Result<(), Fail> {
+fn inverts_divides_and_finds_the_first_letter_outside(rt: HostRuntime) -> Result<(), Fail> {
     let alloc = rt.alloc();
     let word = read_word(alloc, b"1 2 -3")?;
     let inverted = inverse(alloc, word.letters())?;
@@ -98,6 +98,8 @@ fn inverts_and_divides(rt: HostRuntime) -> Result<(), Fail> {
         spelled(alloc, inverted.letters())?.as_slice(),
         b"3 -2 -1".as_slice()
     );
+    assert_eq!(rt; first_outside(word.letters(), 3), Some(2));
+    assert_eq!(rt; first_outside(word.letters(), 4), None);
     let left = read_word(alloc, b"1 2")?;
     let right = read_word(alloc, b"2 1")?;
     let divided = quotient(alloc, left.letters(), right.letters())?;

@@ -1,5 +1,5 @@
-ghost use Rattle.std.specs.Prelude.{◌≡◌, [], ◌∷◌, ◌++◌, IfOk, OnOk, OnErr};
-ghost use Rattle.braid_word.specs.Words.{inverse, quotient};
+ghost use Rattle.std.specs.Prelude.{◌≡◌, ◌<◌, [], ◌∷◌, ◌++◌, length, IfOk, OnOk, OnErr, IfSome, IfNone};
+ghost use Rattle.braid_word.specs.Words.{inverse, quotient, IsOn, first_outside};
 
 use crate::letter::Letter;
 use std::alloc::{AllocError, Global};
@@ -88,4 +88,19 @@ pub fn quotient(alloc: Global, u: &[Letter], v: &[Letter]) -> Result<Word, Alloc
     let Word { mut letters } = inverse(alloc, u)?;
     letters.extend_from_slice(v)?;
     Ok(Word { letters })
+}
+
+/// The place, counted from 0, of the first letter that isn't on so many strands: its index is their number or more.
+pub fn first_outside(letters: &[Letter], strands: u32) -> Option<usize>
+    ensures place { result ≡ first_outside strands letters.now }
+    ensures within { IfSome result (λ k. k < length letters.now) }
+    ensures on { IfNone result (IsOn strands letters.now) }
+{
+    for k in 0..letters.len() {
+        let letter = letters[k];
+        if strands <= u32::from(letter.index()) {
+            return Some(k);
+        }
+    }
+    None
 }

@@ -14,7 +14,7 @@ use Rattle.free_word.specs.FreeWords.{Gen}
 abbrev pub gen_text : Gen → List ℕ
 gen_text x = signed_text x.negative x.index
 
--- A generator behind a space.
+-- A generator behind a space. No public clause cites it.
 abbrev pub next_text : Gen → List ℕ
 next_text x = 32 ∷ gen_text x
 

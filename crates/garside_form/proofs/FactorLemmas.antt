@@ -1,8 +1,7 @@
 -- Lists of simple braids: their products, and greedy lists.
 --
 -- A list is greedy where each pair of neighbours is. In such a list half turns stand first and identities
--- last, so it is normal once these are taken off (`IsNormal-from`). Moves between neighbours keep
--- the product of the list (`KeepsFactors-pair`).
+-- last. Moves between neighbours keep the product of the list (`KeepsFactors-pair`).
 use Rattle.std.proofs.Common.{ℕ, ◌≡◌, ◌+◌, ◌-◌, ◌∙◌, List, [], ◌∷◌, ◌++◌, length, append_assoc, reverse, refl, sym, ap, arith}
 use Rattle.std.proofs.lemmas.List.{reverse-reverse}
 use Rattle.braid_word.specs.Words.{Letter}
@@ -14,7 +13,7 @@ use Rattle.perm_braid.specs.GreedyPairs.{IsGreedy, KeepsProduct}
 use Rattle.perm_braid.proofs.PlaceLemmas.{entry-reverse, entry-identity, place_of-half_turn}
 use Rattle.perm_braid.proofs.SortingLemmas.{IsStuck, identity-from_stuck}
 use Rattle.perm_braid.proofs.SimpleWordLemmas.{word_exists, word_unique, IsOn-word, identity-from_rising}
-use Rattle.garside_form.specs.NormalForms.{IsFactor, IsNormal, IsProduct, empty, factor}
+use Rattle.garside_form.specs.NormalForms.{IsProduct, empty, factor}
 use Rattle.garside_form.specs.FactorLists.{EachOrder, AreGreedy, KeepsFactors}
 use Rattle.garside_form.proofs.LevelLemmas.{IsOrder-reverse}
 use Rattle.garside_form.proofs.UniqueLemmas.{IsOn-product, product_unique}
@@ -156,20 +155,6 @@ greedy_identity {n} {q} order greedy =
     let here = entry-identity n i low (omega arith) in
     let next = entry-identity n (i + 1) (omega arith) (omega arith) in
     absurd (omega (arith, here, next, down)))
-
--- a greedy list of simple braids that are neither the identity nor the half turn is normal
-pub IsNormal-from
-    : (n : ℕ) (ps : List (List ℕ))
-    → ((p : List ℕ) (front rest : List (List ℕ)) → ps ≡ front ++ p ∷ rest → IsFactor n p)
-    → AreGreedy n ps
-    → IsNormal n ps
-IsNormal-from n [] each greedy = tt
-IsNormal-from n (p ∷ []) each greedy = each p [] [] refl
-IsNormal-from n (p ∷ q ∷ ps) each greedy = (
-  each p [] (q ∷ ps) refl,
-  greedy.0,
-  IsNormal-from n (q ∷ ps) (λ r front rest is. each r (p ∷ front) rest (ap (λ l. p ∷ l) is)) greedy.1,
-)
 
 -- before the half turn only the half turn is greedy
 pub greedy_half_turn

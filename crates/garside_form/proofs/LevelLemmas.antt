@@ -3,8 +3,9 @@
 -- A product is read from an order x as the orders after its factors, of which the last repeats for ever.
 -- One simple braid more in front, from x to y, is taken in by one pass (`push`): each order is settled
 -- between the one before it, as it has become, and the one after it. Two simple braids taken in one after
--- the other are taken in as one, where no pair is turned twice (`push-merge`). Taken into a settled
--- sequence, a simple braid leaves a settled one (`IsSettledFrom-push`).
+-- the other are taken in as one, where no pair is turned twice (`push-merge`). The order before one that is
+-- settled stays settled (`settle-domino`); so taken into a settled sequence, a simple braid leaves a settled
+-- one (`IsSettledFrom-push`).
 use Rattle.std.proofs.Common.{ℕ, zero, suc, ◌≡◌, inl, inr, ◌+◌, ◌-◌, ◌<◌, ◌≤◌, ◌∙◌, List, length, reverse, refl, sym, arith}
 use Rattle.std.proofs.lemmas.List.{length-reverse, reverse-reverse}
 use Rattle.perm_braid.specs.Arrangements.{entry, place_of, swapped, IsOrder}
@@ -130,14 +131,9 @@ push x l (suc k) = settle (push x l k) (l (suc k)) (l (suc (suc k)))
 abbrev pub AreOrders : ℕ → Levels → Type 0
 AreOrders n l = (k : ℕ) → IsOrder n (l k)
 
--- The order before the k-th.
-abbrev pub previous : List ℕ → Levels → Levels
-previous x l zero = x
-previous x l (suc k) = l k
-
 -- Each is settled.
 abbrev pub IsSettledFrom : List ℕ → Levels → Type 0
-IsSettledFrom x l = (k : ℕ) → IsSettled (previous x l k) (l k) (l (suc k))
+IsSettledFrom x l = (k : ℕ) → IsSettled (in_front x l k) (l k) (l (suc k))
 
 -- one sequence in the place of the same
 pub IsSame-push : {l m : Levels} (x : List ℕ) → IsSame l m → IsSame (push x l) (push x m)

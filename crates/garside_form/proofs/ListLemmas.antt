@@ -7,7 +7,7 @@ use Rattle.perm_braid.specs.GreedyPairs.{IsGreedy, Moves, done, move}
 use Rattle.perm_braid.proofs.MoveLemmas.{greedy_not}
 use Rattle.garside_form.specs.FactorLists.{EachOrder, AreGreedy, KeepsFactors, BeginsShort, IsReady, IsTakenIn}
 use Rattle.garside_form.proofs.FactorLemmas.{KeepsFactors-trans}
-use Rattle.garside_form.proofs.PassLemmas.{orders_front, orders_back, greedy_front, begins_front, IsPass, IsPass-begin, IsPass-step, IsPass-stops, IsPass-ends, IsPass-turned}
+use Rattle.garside_form.proofs.PassLemmas.{orders_front, orders_back, greedy_front, begins_front, IsPass, IsPass-begin, IsPass-step, IsPass-stops, IsPass-turned}
 use Rattle.garside_form.proofs.ReadyLemmas.{KeepsFactors-identity, EndsCrossed-last}
 
 -- ---- Taking in ----
@@ -100,21 +100,6 @@ taken_stops n start front f one two list stack o carry t u pass is moves greedy 
     subst (λ x. IsGreedy n x carry) none.0 (subst (λ x. IsGreedy n t x) none.1 (subst (λ k. IsGreedy k t u) order.size greedy)) in
     rw back (IsPass-stops n start f o carry rest here good)
 
--- where the front is empty, so is it
-pub taken_ends
-    : (n : ℕ) (start front one list stack : List (List ℕ)) (carry : List ℕ)
-    → IsPass n start front carry (reverse stack)
-    → (carry ≡ half_turn (length carry) → ⊥)
-    → front ≡ []
-    → one ≡ front ++ carry ∷ []
-    → list ≡ one ++ reverse stack
-    → IsTakenIn n start list false
-taken_ends n start front one list stack carry pass short none first second =
-    let back : list ≡ carry ∷ reverse stack =
-    second ∙ ap (λ l. l ++ reverse stack) (first ∙ ap (λ l. l ++ carry ∷ []) none) in
-    rw back (IsPass-ends n start carry (reverse stack) (subst (λ l. IsPass n start l carry (reverse stack)) none pass)
-    (short_here n start front carry (reverse stack) pass short))
-
 -- and where a half turn came out
 pub taken_turns
     : (n : ℕ) (start front list stack : List (List ℕ)) (carry : List ℕ)
@@ -124,22 +109,6 @@ pub taken_turns
     → IsTakenIn n start list true
 taken_turns n start front list stack carry pass whole is =
     rw is (IsPass-turned n start front carry (reverse stack) pass (whole ∙ ap half_turn pass.in_carry.size))
-
--- ---- Flips put back ----
-
--- one flip more was put back
-pub flips_next
-    : (start list more ps f : List (List ℕ)) (p q : List ℕ)
-    → list ++ map flip (reverse ps) ≡ start
-    → ps ≡ f ++ p ∷ []
-    → q ≡ flip p
-    → more ≡ list ++ q ∷ []
-    → more ++ map flip (reverse f) ≡ start
-flips_next start list more ps f p q so_far is turned grown =
-    let last : reverse ps ≡ p ∷ reverse f = ap reverse is ∙ reverse-append f (p ∷ []) in
-    ap (λ l. l ++ map flip (reverse f)) (grown ∙ ap (λ x. list ++ x ∷ []) turned)
-    ∙ (append_assoc list (flip p ∷ []) (map flip (reverse f))
-    ∙ (ap (λ l. list ++ map flip l) (sym last) ∙ so_far))
 
 -- ---- Dropping identities ----
 

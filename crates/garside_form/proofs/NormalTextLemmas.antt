@@ -1,5 +1,5 @@
 -- The text of a normal form, taken apart as it is written.
-use Rattle.std.proofs.Common.{◌≡◌, ℕ, suc, ◌+◌, ◌<◌, Bool, true, List, [], ◌∷◌, ◌++◌, Some, codes, length, get_or, decimal, flat_map, refl, sym, ap, ◌∙◌, arith}
+use Rattle.std.proofs.Common.{◌≡◌, ℕ, suc, ◌+◌, ◌<◌, Bool, List, [], ◌∷◌, ◌++◌, Some, codes, length, get_or, flat_map, refl, sym, ap, ◌∙◌, arith}
 use Rattle.std.specs.List.{slice_get}
 use Rattle.std.proofs.lemmas.Option.{slice_get_read}
 use Rattle.std.proofs.lemmas.Grind.{get_or_default_zero}
@@ -29,10 +29,6 @@ pub normal_text-parts
     → normal_text f ≡ line (codes "delta " ++ power_text f.delta) ++ flat_map factor_line f.factors
 unfolding normal_text
 normal_text-parts f = refl
-
--- a negative number begins with a minus sign
-pub signed_negative : (b : Bool) (n : ℕ) → b ≡ true → signed_text b n ≡ (45 ∷ []) ++ decimal n
-signed_negative b n is = rw is refl
 
 -- the text of a normal form by them
 pub normal_text-signed

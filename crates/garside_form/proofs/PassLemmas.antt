@@ -217,19 +217,6 @@ IsPass-stops n start f o carry rest pass greedy = record {
       (behind_one f o (carry ∷ rest) ∙ sym (append-nil (f ++ o ∷ carry ∷ rest))) pass.keeps;
 }
 
--- where the front is empty, the factor and the rest are owed
-pub IsPass-ends
-    : (n : ℕ) (start : List (List ℕ)) (carry : List ℕ) (rest : List (List ℕ))
-    → IsPass n start [] carry rest
-    → (carry ≡ half_turn n → ⊥)
-    → IsTakenIn n start (carry ∷ rest) false
-IsPass-ends n start carry rest pass short = record {
-  orders = (pass.in_carry, pass.in_rest);
-  greedy = pass.rest_greedy;
-  begins = short;
-  keeps = subst (λ l. KeepsFactors n start l) (sym (append-nil (carry ∷ rest))) pass.keeps;
-}
-
 -- front and flipped rest are greedy
 turned_greedy
     : (n : ℕ) (start front : List (List ℕ)) (carry : List ℕ) (rest : List (List ℕ))

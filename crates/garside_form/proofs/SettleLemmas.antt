@@ -3,8 +3,7 @@
 -- Read a product of simple braids as the orders of the strands between its factors. Two neighbours of an
 -- order may be exchanged where they stand in this order before and turned after: the crossing then goes
 -- over to the first of the two factors. The end of such exchanges is one order (`settle`). Settling
--- twice over a middle order that crosses no pair twice is settling once (`settle-merge`), and the factor
--- before one that is settled stays settled (`settle-domino`).
+-- twice over a middle order that crosses no pair twice is settling once (`settle-merge`).
 use Rattle.std.proofs.Common.{ℕ, zero, suc, ◌≡◌, ◌⊎◌, inl, inr, ◌+◌, ◌<◌, ◌≤◌, ◌∙◌, Bool, true, false, List, map, refl, sym, ap, subst, arith}
 use Rattle.std.specs.Prelude.{nat_lt, ◌&&◌}
 use Rattle.std.proofs.lemmas.Bool.{cases_eq, cases_lt, cases_Bool, lt-ltb, ltb-true, true≢false, and_parts}

@@ -1,4 +1,4 @@
--- Lists of simple braids on the way to a normal form.
+-- Lists of simple braids on the way to a normal form. No public clause cites this.
 --
 -- Source: D. Epstein and others, Word Processing in Groups, 1992, chapter 9.
 --

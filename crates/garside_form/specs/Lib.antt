@@ -1,4 +1,3 @@
 pub mod NormalForms
 pub mod FactorLists
-pub mod FirstOutside
 pub mod NormalText

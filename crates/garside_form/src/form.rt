@@ -1,4 +1,4 @@
-ghost use Rattle.std.specs.Prelude.{◌≡◌, ◌<◌, ◌≤◌, ◌↔◌, ℤ, List, length, IsTrue, IsSome, IfSome, Some, slice_get};
+ghost use Rattle.std.specs.Prelude.{◌≡◌, ◌<◌, ◌≤◌, ◌↔◌, List, length, IsTrue, IsSome, IfSome, Some, slice_get};
 ghost use Rattle.braid_word.specs.Words.{Letter};
 ghost use Rattle.braid_word.specs.Equivalence.{EquivalentOn};
 ghost use Rattle.garside_form.specs.NormalForms.{Form, form, IsNormal, IsFormOf};

@@ -1,29 +1,15 @@
-ghost use Rattle.std.specs.Prelude.{◌≡◌, ◌+◌, ◌-◌, ◌<◌, ◌≤◌, ◌↔◌, ℕ, pos, negsuc, length, IfOk, OnOk, IfSome, IfNone, Err};
-ghost use Rattle.braid_word.specs.Words.{IsOn};
+ghost use Rattle.std.specs.Prelude.{◌≡◌, ◌+◌, ◌-◌, ◌<◌, ◌≤◌, ◌↔◌, ℕ, pos, negsuc, length, IfOk, OnOk, Some, Err};
+ghost use Rattle.std.specs.Option.{option_map};
+ghost use Rattle.braid_word.specs.Words.{IsOn, first_outside};
 ghost use Rattle.garside_form.specs.NormalForms.{Form, IsFormOf};
-ghost use Rattle.garside_form.specs.FirstOutside.{IsFirstOutside};
 ghost use Rattle.garside_form.specs.declared.error.NormalErr.TheVariants.{Strands};
 
 use crate::error::NormalErr;
 use crate::form::NormalForm;
 use crate::letters::take_letters;
 use crate::lists::turn_factors;
-use braid_word::Letter;
+use braid_word::{Letter, first_outside};
 use std::alloc::{AllocError, Global};
-
-// The first letter whose index is n or more.
-fn first_outside(word: &[Letter], n: u32) -> Option<usize>
-    ensures found { IfSome result (λ k. IsFirstOutside n word.now (k + 1) × (k < length word.now)) }
-    ensures none { IfNone result (IsOn n word.now) }
-{
-    for k in 0..word.len() {
-        let letter = word[k];
-        if n <= u32::from(letter.index()) {
-            return Some(k);
-        }
-    }
-    None
-}
 
 // The first number less the second.
 fn difference(a: u32, b: u32) -> i32
@@ -67,7 +53,7 @@ pub fn normal(alloc: Global, word: &[Letter], n: u32) -> Result<NormalForm, Norm
     ensures form { IfOk result (λ f. IsFormOf f word.now) }
     ensures only { IfOk result (λ f. (g : Form) → g.strands ≡ n → IsFormOf g word.now → g ≡ f) }
     ensures on { OnOk result (IsOn n word.now) }
-    ensures refused { (place : ℕ) → (result ≡ Err (Strands place)) ↔ IsFirstOutside n word.now place }
+    ensures refused { (place : ℕ) → (result ≡ Err (Strands place)) ↔ (option_map (λ k. k + 1) (first_outside n word.now) ≡ Some place) }
 {
     if let Some(k) = first_outside(word, n) {
         return Err(NormalErr::Strands {

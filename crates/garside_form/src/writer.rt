@@ -1,4 +1,4 @@
-ghost use Rattle.std.specs.Prelude.{◌≡◌, ◌+◌, ◌<◌, ◌≤◌, ◌∷◌, ◌++◌, codes, length};
+ghost use Rattle.std.specs.Prelude.{◌+◌, ◌<◌, ◌≤◌, ◌++◌, codes, length};
 ghost use Rattle.std.specs.List.{flat_map};
 ghost use Rattle.wb_base.specs.Lines.{line};
 ghost use Rattle.wb_base.specs.Numbers.{signed_text};
@@ -8,17 +8,7 @@ ghost use Rattle.garside_form.specs.NormalText.{factor_line, normal_text};
 
 use crate::form::NormalForm;
 use perm_braid::Perm;
-use wb_base::{Failed, Sink, give_all, put_number};
-
-// Gives an entry behind a space.
-fn put_entry<K: Sink>(sink: &mut K, entry: u32) -> Result<(), Failed>
-    ensures took { Puts (K.taken sink.old) (K.taken sink.new) result (spaced_number entry) }
-    ensures cause { HasCause (K.faults sink.old) (K.faults sink.new) result }
-    ensures waits { K.waiting sink.new ≤ K.waiting sink.old + length (spaced_number entry) }
-{
-    give_all(sink, b" ")?;
-    put_number(sink, u64::from(entry))
-}
+use wb_base::{Failed, Sink, give_all, put_numbered, put_signed};
 
 // Gives the entries of an arrangement, each behind a space.
 fn put_entries<K: Sink>(sink: &mut K, factor: &Perm) -> Result<(), Failed>
@@ -28,7 +18,7 @@ fn put_entries<K: Sink>(sink: &mut K, factor: &Perm) -> Result<(), Failed>
 {
     for k in 0..factor.strands() {
         let entry = factor.at(k + 1);
-        put_entry(sink, entry)?;
+        put_numbered(sink, b" ", u64::from(entry))?;
     }
     Ok(())
 }
@@ -56,19 +46,6 @@ fn put_factors<K: Sink>(sink: &mut K, factors: &[Perm]) -> Result<(), Failed>
     Ok(())
 }
 
-// Gives a number in decimal, behind a minus sign where it is negative.
-fn put_power<K: Sink>(sink: &mut K, negative: bool, size: u32) -> Result<(), Failed>
-    ensures took { Puts (K.taken sink.old) (K.taken sink.new) result (signed_text negative size) }
-    ensures cause { HasCause (K.faults sink.old) (K.faults sink.new) result }
-    ensures waits { K.waiting sink.new ≤ K.waiting sink.old + length (signed_text negative size) }
-{
-    if negative {
-        give_all(sink, b"-")?;
-        return put_number(sink, u64::from(size));
-    }
-    put_number(sink, u64::from(size))
-}
-
 // Gives the power of the half turn as a line.
 fn put_delta<K: Sink>(sink: &mut K, negative: bool, size: u32) -> Result<(), Failed>
     ensures took { Puts (K.taken sink.old) (K.taken sink.new) result (line (codes "delta " ++ signed_text negative size)) }
@@ -76,7 +53,7 @@ fn put_delta<K: Sink>(sink: &mut K, negative: bool, size: u32) -> Result<(), Fai
     ensures waits { K.waiting sink.new ≤ K.waiting sink.old + length (line (codes "delta " ++ signed_text negative size)) }
 {
     give_all(sink, b"delta ")?;
-    put_power(sink, negative, size)?;
+    put_signed(sink, negative, u64::from(size))?;
     give_all(sink, b"\n")
 }
 

@@ -1,4 +1,4 @@
-ghost use Rattle.std.specs.Prelude.{◌≡◌, ℕ, ◌+◌, ◌-◌, ◌^◌, ◌≤◌, ◌==◌, ◌++◌, min, not, length, vec_capacity, IfOk};
+ghost use Rattle.std.specs.Prelude.{◌≡◌, ℕ, ◌+◌, ◌-◌, ◌^◌, ◌≤◌, ◌==◌, ◌++◌, min, length, vec_capacity, IfOk};
 ghost use Rattle.std.specs.List.{count_by, flat_map};
 ghost use Rattle.braid_word.specs.Words.{IsOn};
 ghost use Rattle.braid_word.specs.Equivalence.{EquivalentOn};

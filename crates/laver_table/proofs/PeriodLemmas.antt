@@ -3,7 +3,7 @@
 -- The period of a row is the first column that has N. Before it the entries rise (`period-rises`), so they are
 -- different, and behind it they begin again (`repeats-period`): so it is the number of different entries of
 -- the row (`distinct_count-row`).
-use Rattle.std.proofs.Common.{◌≡◌, ◌≢◌, ℕ, zero, suc, ◌+◌, ◌-◌, ◌<◌, ◌≤◌, ◌⊎◌, inl, inr, Bool, true, false, List, length, get_or, map, AllPairs, refl, sym, ap, ◌∙◌, subst, nat_eq, arith, ◌*◌, suc-mul}
+use Rattle.std.proofs.Common.{◌≡◌, ◌≢◌, ℕ, zero, suc, ◌+◌, ◌-◌, ◌<◌, ◌≤◌, ◌⊎◌, inl, inr, Bool, true, false, List, length, get_or, AllPairs, refl, sym, ap, ◌∙◌, subst, nat_eq, arith}
 use Rattle.std.proofs.lemmas.Bool.{cases_eq, cases_lt}
 use Rattle.std.proofs.lemmas.List.Folds.{Any-from_list_any, list_any_at}
 use Rattle.std.proofs.lemmas.List.FromFn.{length-map-range_with_len, get_or-map-range_with_len}
@@ -11,12 +11,13 @@ use Rattle.std.proofs.lemmas.Map.Made.{IsDistinct-from_AllPairs, length-from_key
 use Rattle.std.proofs.lemmas.Cmp.{nat_eq_equiv}
 use Rattle.std.proofs.lemmas.Grind.{get_or_default_zero}
 use Rattle.std.specs.Cmp.{unsigned_Decides}
-use Rattle.std.specs.List.{list_any, range_with_len}
+use Rattle.std.specs.List.{list_any}
 use Rattle.std.specs.Set.{distinct_count}
 use Rattle.laver_table.specs.Product.{product, product_row}
 use Rattle.laver_table.specs.Period.{IsFull, IsPeriod}
 use Rattle.laver_table.proofs.ProductLemmas.{product-between, product-top, product-zero, product-shift, product-rises}
 use Rattle.laver_table.proofs.RowLemmas.{length-product_row, get_or-product_row}
+use Rattle.laver_table.proofs.HeldLemmas.{row_front}
 
 -- ---- One period of a row ----
 
@@ -85,19 +86,6 @@ pub repeats-period
 repeats-period N p o q period below =
     let turn : product N p o ≡ product N p 0 = period.full ∙ sym (product-zero N p below) in
     ap (product N p) (omega arith) ∙ product-shift N p o 0 q below turn ∙ ap (product N p) (omega arith)
-
--- the same after any number of periods
-pub repeats-periods
-    : (N p o k q : ℕ)
-    → IsPeriod N p o
-    → p < N
-    → product N p (q + k * o) ≡ product N p q
-repeats-periods N p o zero q period below = ap (product N p) (omega arith)
-repeats-periods N p o (suc k) q period below =
-    let one_more : q + suc k * o ≡ q + k * o + o = omega (arith, suc-mul k o) in
-    ap (product N p) one_more
-    ∙ repeats-period N p o (q + k * o) period below
-    ∙ repeats-periods N p o k q period below
 
 -- ---- Every row of a full size has a period ----
 
@@ -181,15 +169,11 @@ any_covered test xs ys covers some =
     let here : get_or xs k 0 ≡ x = sym (get_or_default_zero xs k x within) ∙ is in
     list_any_at test ys j 0 inside (ap test (sym same ∙ here) ∙ passes)
 
--- The entries of one period.
-abbrev one_period : ℕ → ℕ → ℕ → List ℕ
-one_period N p o = map (product N p) (range_with_len 1 o)
-
 -- an entry of one period, found at its place
 get_or-one_period
     : (N p o k d : ℕ)
     → k < o
-    → get_or (one_period N p o) k d ≡ product N p (k + 1)
+    → get_or (row_front N p o) k d ≡ product N p (k + 1)
 get_or-one_period N p o k d within = get_or-map-range_with_len (product N p) 1 o k (k + 1) d within (omega arith)
 
 -- they are different
@@ -197,7 +181,7 @@ one_period-apart
     : (N p o : ℕ)
     → IsPeriod N p o
     → p ≤ N
-    → AllPairs (λ x y. x ≢ y) (one_period N p o)
+    → AllPairs (λ x y. x ≢ y) (row_front N p o)
 one_period-apart N p o period row i j d before within =
     let inside : j < o = omega (arith, length-map-range_with_len (product N p) 1 o) in
     let later : j + 1 ≡ i + 1 + suc (j - suc i) = omega arith in
@@ -210,8 +194,8 @@ one_period-apart N p o period row i j d before within =
 period_in_row
     : (N p o k : ℕ)
     → IsPeriod N p o
-    → k < length (one_period N p o)
-    → (j : ℕ) × (j < length (product_row N p)) × (get_or (one_period N p o) k 0 ≡ get_or (product_row N p) j 0)
+    → k < length (row_front N p o)
+    → (j : ℕ) × (j < length (product_row N p)) × (get_or (row_front N p o) k 0 ≡ get_or (product_row N p) j 0)
 period_in_row N p o k period within =
     let inside : k < o = omega (arith, length-map-range_with_len (product N p) 1 o) in
     let wide : k < N = omega (arith, period.within) in
@@ -223,7 +207,7 @@ row_in_period
     → IsPeriod N p o
     → p ≤ N
     → k < length (product_row N p)
-    → (j : ℕ) × (j < length (one_period N p o)) × (get_or (product_row N p) k 0 ≡ get_or (one_period N p o) j 0)
+    → (j : ℕ) × (j < length (row_front N p o)) × (get_or (product_row N p) k 0 ≡ get_or (row_front N p o) j 0)
 row_in_period N p o k period row within =
     let inside : k < N = omega (arith, length-product_row N p) in
     let (c, first, last, same) = column_up_to N p o (k + 1) period row (omega arith) (omega arith) in
@@ -241,7 +225,7 @@ pub distinct_count-row
     → p ≤ N
     → distinct_count nat_eq (product_row N p) ≡ o
 distinct_count-row N p o period row =
-    let ns = one_period N p o in
+    let ns = row_front N p o in
     let xs = product_row N p in
     let apart = IsDistinct-from_AllPairs unsigned_Decides ns (one_period-apart N p o period row) in
     let alike = λ (q : ℕ). same_tests (list_any (nat_eq q) ns) (list_any (nat_eq q) xs)

@@ -5,7 +5,7 @@
 -- (`IsThreshold-exists`). Below o it leaves the period (`IsPeriod-same`); at o the period doubles, and in its
 -- second half M is added (`IsPeriod-twice`, `second-half`).
 use Rattle.std.proofs.Common.{◌≡◌, ℕ, zero, suc, ◌+◌, ◌-◌, ◌<◌, ◌≤◌, inl, inr, refl, sym, ap, ◌∙◌, subst, arith}
-use Rattle.std.proofs.lemmas.Bool.{cases_eq, cases_lt, cases_order}
+use Rattle.std.proofs.lemmas.Bool.{cases_eq, cases_lt}
 use Rattle.laver_table.specs.Product.{product}
 use Rattle.laver_table.specs.Period.{IsFull, IsPeriod, IsThreshold}
 use Rattle.laver_table.proofs.ProductLemmas.{product-between, product-top, product-one, product-rises}
@@ -243,40 +243,3 @@ IsPeriod-upper M p o full period below = record {
   full = product-upper M p o full below ∙ ap (λ x. x + M) period.full;
   short = λ q low before. omega (arith, product-upper M p q full below, period.short q low before);
 }
-
--- ---- Finding a threshold ----
-
--- the column at which a walk along row p of size 2M passes M is behind the threshold
-pub IsThreshold-walk
-    : (M p o t : ℕ)
-    → IsFull M
-    → IsPeriod M p o
-    → p ≤ M
-    → ((q : ℕ) → 1 ≤ q → q ≤ t → product (M + M) p q ≤ M)
-    → M < product (M + M) p (suc t)
-    → IsThreshold M p o t
-IsThreshold-walk M p o t full period row before past =
-    let (s, threshold) = IsThreshold-exists M p o full period row in
-    elim (cases_order t s) [
-      | inl same ↦ subst (IsThreshold M p o) (sym same) threshold
-      | inr (inl early) ↦
-          let low = threshold.low (suc t) (omega arith) early in
-          let bound = product-within M p (suc t) row (omega (arith, threshold.within, period.within)) in
-          absurd (omega (arith, low, bound, past))
-      | inr (inr late) ↦ elim (cases_eq s o) [
-        | inr part ↦
-            let high = threshold.high (suc s) (omega arith) (omega (arith, threshold.within)) in
-            let positive = product-positive M p (suc s) row (omega arith) in
-            absurd (omega (arith, high, positive, before (suc s) (omega arith) late))
-        | inl whole ↦
-            let below : p < M = elim (cases_eq p M) [
-              | inr ne ↦ omega arith
-              | inl top ↦ absurd (omega (arith, threshold-last M o s full period.positive (subst (λ r. IsThreshold M r o s) top threshold), period.positive))
-            ] in
-            let column : o + suc zero ≡ suc s = omega arith in
-            let second = second-half M p o 0 full period below (subst (IsThreshold M p o) whole threshold) period.positive in
-            let there : product (M + M) p (suc s) ≡ product M p (suc zero) + M = ap (product (M + M) p) (sym column) ∙ second in
-            let positive = product-positive M p 1 row (omega arith) in
-            absurd (omega (arith, there, positive, before (suc s) (omega arith) late))
-      ]
-    ]

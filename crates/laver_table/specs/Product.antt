@@ -35,6 +35,6 @@ product_row N p = map (product N p) (range_with_len 1 N)
 unfoldable pub product_rows : ℕ → List (List ℕ)
 product_rows N = map (product_row N) (range_with_len 1 N)
 
--- The last rows, from row N down, this many.
+-- The last rows, from row N down, this many. No public clause cites it.
 unfoldable pub rows_from_last : ℕ → ℕ → List (List ℕ)
 rows_from_last N count = map (λ i. product_row N (N - i)) (range_with_len 0 count)

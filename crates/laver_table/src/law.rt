@@ -1,4 +1,4 @@
-ghost use Rattle.std.specs.Prelude.{◌≡◌, ℕ, ◌+◌, ◌^◌, ◌<◌, ◌≤◌, List};
+ghost use Rattle.std.specs.Prelude.{◌≡◌, ℕ, ◌+◌, ◌^◌, List};
 ghost use Rattle.laver_table.specs.Table.{entry, IsUpTo, IsLaver, IsComputed, ExceedsRows};
 ghost use Rattle.laver_table.specs.Form.{period_of, IsPeriodic, Doubles};
 

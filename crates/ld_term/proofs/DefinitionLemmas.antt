@@ -2,22 +2,18 @@
 use Rattle.std.proofs.Common.{◌≡◌, ℕ, ◌+◌, ◌-◌, false, List, [], ◌∷◌, ◌++◌, length, take, drop, refl, sym, ap, ◌∙◌, subst}
 use Rattle.ld_term.specs.Written.{Written, leaf}
 use Rattle.ld_term.specs.Tokens.{Token, equals, variable, name, Placed, tokens_of, tokens_from}
-use Rattle.ld_term.specs.Grammar.{IsTermText, atom, IsTerm, IsDefinitionText, IsDefinitionOf, Begins, IsFault, at_token, at_end}
+use Rattle.ld_term.specs.Grammar.{IsTermText, atom, IsTerm, IsDefinitionOf, Begins, IsFault, at_token, at_end}
 use Rattle.ld_term.specs.Held.{token_from, IsPiece}
 use Rattle.ld_term.specs.Refusals.{IsRefused}
 use Rattle.ld_term.specs.declared.term_err.TermErr.{TermErr}
 use Rattle.ld_term.specs.declared.term_err.TermErr.TheVariants.{Form, TooDeep, TooMany, Memory}
 use Rattle.ld_term.specs.declared.token.Kind.{Kind}
 use Rattle.ld_term.specs.declared.token.Kind.TheVariants as kinds
-use Rattle.ld_term.proofs.EqualLemmas.{head_is, tail_is}
+use Rattle.ld_term.proofs.EqualLemmas.{head_is, tail_is, nil_cons}
 
 -- Some term is defined.
 abbrev pub Defines : List Token → Type 0
 Defines tokens = (t : Written) × IsDefinitionOf tokens t
-
--- no list with a first element is empty
-nil_cons : {x : Token} {xs : List Token} → [] ≡ x ∷ xs → ⊥
-nil_cons e = cc
 
 -- ---- The first two tokens ----
 
@@ -201,21 +197,3 @@ refused-definition line kind first end sign second last e piece is next sign_is 
     (ap (λ k. token_from k (take (end - first) (drop first line)) (first + 1)) is)
     (ap (λ k. token_from k (take (last - second) (drop second line)) (second + 1)) sign_is)
     refused)
-
--- the definition is read
-pub read-definition
-    : (line : List ℕ) (kind : Kind) (first end : ℕ) (sign : Kind) (second last : ℕ) (bytes : List ℕ) (t : Written)
-    → IsPiece false line 0 kind first end
-    → kind ≡ kinds.Name
-    → IsPiece false line end sign second last
-    → sign ≡ kinds.Equals
-    → bytes ≡ take (end - first) (drop first line)
-    → IsTermText false (tokens_of (tokens_from false last line)) t
-    → IsDefinitionText (tokens_of (tokens_from false 0 line)) bytes (first + 1) t
-read-definition line kind first end sign second last bytes t piece is next sign_is bytes_are text =
-    record {
-      term = tokens_of (tokens_from false last line);
-      whole = ap tokens_of (piece.tokens ∙ ap (λ rest. piece_token line kind first end ∷ rest) next.tokens)
-          ∙ rw (is, sign_is, bytes_are) refl;
-      text = text;
-    }

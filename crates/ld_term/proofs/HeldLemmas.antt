@@ -1,10 +1,11 @@
 -- Heights in place of terms: what the reader does is what the automaton does.
-use Rattle.std.proofs.Common.{◌≡◌, ℕ, ◌+◌, ◌-◌, ◌^◌, min, max, Bool, true, false, List, [], ◌∷◌, ◌++◌, Option, Some, None, refl, sym, ap, arith}
+use Rattle.std.proofs.Common.{◌≡◌, ℕ, ◌+◌, ◌-◌, ◌^◌, min, max, Bool, true, false, List, [], ◌∷◌, ◌++◌, Option, Some, None, refl, ap, arith}
+use Rattle.std.proofs.lemmas.List.{same_from_push}
 use Rattle.ld_term.specs.Written.{Written, leaf, named, times}
 use Rattle.ld_term.specs.Tokens.{open_bracket, close_bracket, star, variable, name}
 use Rattle.ld_term.specs.Automaton.{State, expecting, holding}
 use Rattle.ld_term.specs.Held.{kept_height, left_height, outer_heights, IsHeld, Moves}
-use Rattle.ld_term.proofs.EqualLemmas.{some_inj, head_is, tail_is}
+use Rattle.ld_term.proofs.EqualLemmas.{some_inj}
 
 -- what is there isn't absent
 some_none : {X : Type 0} {x : X} → Some x ≡ None → ⊥
@@ -13,22 +14,10 @@ some_none e = cc
 none_some : {X : Type 0} {x : X} → None ≡ Some x → ⊥
 none_some e = cc
 
--- lists with equal first elements and equal rests are equal
-cons_is : {X : Type 0} {x y : X} {xs ys : List X} → x ≡ y → xs ≡ ys → x ∷ xs ≡ y ∷ ys
-cons_is e f = cc
-
 -- no list with a last element is empty
 snoc_nil : {X : Type 0} (xs : List X) (x : X) → xs ++ (x ∷ []) ≡ [] → ⊥
 snoc_nil [] x e = cc
 snoc_nil (y ∷ xs) x e = cc
-
--- equal lists end alike
-snoc_is : {X : Type 0} (xs ys : List X) (x y : X) → xs ++ (x ∷ []) ≡ ys ++ (y ∷ []) → (xs ≡ ys) × (x ≡ y)
-snoc_is [] [] x y e = (refl, cc)
-snoc_is [] (z ∷ ys) x y e = absurd (snoc_nil ys y (sym (tail_is e)))
-snoc_is (z ∷ xs) [] x y e = absurd (snoc_nil xs x (tail_is e))
-snoc_is (z ∷ xs) (w ∷ ys) x y e =
-    let (front, last) = snoc_is xs ys x y (tail_is e) in (cons_is (head_is e) front, last)
 
 -- ---- Moves ----
 
@@ -92,5 +81,5 @@ moves-close strict (expecting j js) height left k outer held = absurd (some_none
 moves-close strict (holding t None js) height left k outer held = absurd (some_none held.1)
 moves-close strict (holding t (Some a) []) height left k outer held = absurd (snoc_nil outer k held.2)
 moves-close strict (holding t (Some a) (j ∷ js)) height left k outer held =
-    let (front, last) = snoc_is outer (outer_heights js) k (left_height j) held.2 in
+    let (front, last) = same_from_push outer (outer_heights js) k (left_height j) held.2 in
     (holding (times a t) j js, refl, (ap Some (kept-times a t left height (some_inj held.1) (some_inj held.0)), last, front))

@@ -5,18 +5,11 @@ use Rattle.std.proofs.lemmas.Bool.{eqb-true}
 use Rattle.std.proofs.lemmas.List.{drop-drop, drop_more, length-drop}
 use Rattle.std.proofs.lemmas.List.Sums.{prefix_len-le-length}
 use Rattle.std.proofs.Math.Seq.{drop-length}
+use Rattle.ld_term.proofs.EqualLemmas.{nil_cons, head_is}
 use Rattle.ld_term.specs.Held.{token_from, IsNamed, IsStart, IsPiece}
 use Rattle.ld_term.specs.declared.token.Kind.{Kind}
 use Rattle.wb_base.specs.Names.{is_name_byte}
 use Rattle.ld_term.specs.Tokens.{byte_token, run_token, lex, tokens_from}
-
--- a list with a first element isn't empty
-cons_nil : {x : ℕ} {xs : List ℕ} → [] ≡ x ∷ xs → ⊥
-cons_nil e = cc
-
--- equal lists begin alike
-first_is : {x y : ℕ} {xs ys : List ℕ} → x ∷ xs ≡ y ∷ ys → x ≡ y
-first_is e = cc
 
 -- ---- One byte ----
 
@@ -183,14 +176,14 @@ prefix-within p line from within = omega (arith, prefix_len-le-length p (drop fr
 
 -- behind the spaces in front there is no space
 no_space : (bytes : List ℕ) (byte : ℕ) (rest : List ℕ) → drop (prefix_len (λ byte. byte == 32) bytes) bytes ≡ byte ∷ rest → (byte == 32) ≡ false
-no_space [] byte rest is = absurd (cons_nil is)
+no_space [] byte rest is = absurd (nil_cons is)
 no_space (first ∷ bytes) byte rest is = by_byte (no_space bytes byte rest) (first == 32) refl
   where
     by_byte : (drop (prefix_len (λ byte. byte == 32) bytes) bytes ≡ byte ∷ rest → (byte == 32) ≡ false)
         → (b : Bool) → (first == 32) ≡ b → (byte == 32) ≡ false
     by_byte more true space = more (rw (prefix-more (λ byte. byte == 32) first bytes space) at is)
     by_byte more false other =
-        let same : first ≡ byte = first_is (rw (prefix-none (λ byte. byte == 32) first bytes other) at is) in
+        let same : first ≡ byte = head_is (rw (prefix-none (λ byte. byte == 32) first bytes other) at is) in
         subst (λ z. (z == 32) ≡ false) same other
 
 -- the next token starts where the spaces end
@@ -205,10 +198,6 @@ start-spaces line from n within is = rw is record {
   tokens = tokens-spaces line from;
   ends = λ byte bytes behind. no_space (drop from line) byte bytes (drop-drop (prefix_len (λ byte. byte == 32) (drop from line)) from line ∙ behind);
 }
-
--- in a strict line it starts here
-pub start-strict : (line : List ℕ) (from : ℕ) → from ≤ length line → IsStart true line from from
-start-strict line from within = record { within = within; later = omega arith; tokens = refl; ends = λ byte bytes behind. refl }
 
 -- nothing is left at the end
 pub piece-none

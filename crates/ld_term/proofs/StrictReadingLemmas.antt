@@ -14,6 +14,7 @@ use Rattle.std.proofs.lemmas.List.Sums.{take_while-cons}
 use Rattle.std.proofs.lemmas.Option.{none-some}
 use Rattle.std.proofs.lemmas.Result.{IfOk-weaker, IfErr-weaker}
 use Rattle.std.proofs.lemmas.Slice.Eq.{bytes_eq-Decides}
+use Rattle.ld_term.proofs.EqualLemmas.{head_is, tail_is, nil_cons}
 use Rattle.wb_base.specs.Names.{is_name_byte}
 use Rattle.ld_term.specs.Terms.{Term, variable, multiply, leaf_count}
 use Rattle.ld_term.specs.Written.{Written, leaf, named, times, HasNoName, written_height, written_products}
@@ -22,7 +23,7 @@ use Rattle.ld_term.specs.TermTexts.{term_text}
 use Rattle.ld_term.specs.Grammar.{atom_tokens, IsTermText, atom, bare, IsTerm, IsFault}
 use Rattle.ld_term.specs.TreeTexts.{written}
 use Rattle.ld_term.specs.Refusals.{IsRefused}
-use Rattle.ld_term.specs.StrictTexts.{as_written, as_term, strict_text, held_behind, held_after, spelled, strict_term_of, IsStrictRefusal}
+use Rattle.ld_term.specs.StrictTexts.{as_written, as_term, strict_text, held_after, spelled, strict_term_of, IsStrictRefusal}
 use Rattle.ld_term.specs.declared.TheConstants.{MAX_HEIGHT, MAX_PRODUCTS}
 use Rattle.ld_term.specs.declared.term_err.TermErr.{TermErr}
 use Rattle.ld_term.specs.declared.term_err.TermErr.TheVariants.{Form, TooDeep, TooMany, Memory}
@@ -31,13 +32,6 @@ use Rattle.ld_term.proofs.LawLemmas.{fault-none, nameless-text}
 use Rattle.ld_term.proofs.StrictLemmas.{EndsRun, lex-ends, bracketed, IsTermText-strict_text, as_written-as_term, written_height-as_written, written_products-as_written}
 
 -- ---- The terms that are held ----
-
--- the bytes are read one part after the other
-pub held_after-append
-    : (held : List Term) (first second : List ℕ)
-    → held_after held (first ++ second) ≡ held_after (held_after held first) second
-held_after-append held [] second = refl
-held_after-append held (byte ∷ first) second = held_after-append (held_behind held byte) first second
 
 -- behind the strict text of a term the term is held
 pub held_after-strict_text
@@ -151,12 +145,9 @@ run-ended : (bytes : List ℕ) → take_while is_name_byte bytes ≡ [] → Ends
 run-ended [] none = tt
 run-ended (byte ∷ bytes) none = by_test (is_name_byte byte) refl
   where
-    cons_nil : {x : ℕ} {xs : List ℕ} → x ∷ xs ≡ [] → ⊥
-    cons_nil e = cc
-
     by_test : (b : Bool) → is_name_byte byte ≡ b → b ≡ false
     by_test false ended = refl
-    by_test true goes = absurd (cons_nil (sym (run-first byte bytes goes) ∙ none))
+    by_test true goes = absurd (nil_cons (sym none ∙ run-first byte bytes goes))
 
 -- A run is an x by itself.
 record IsX (byte : ℕ) (bytes : List ℕ) (token : Token) : Type 0 where
@@ -172,19 +163,13 @@ run-x
     → IsX byte bytes (run_token true (take_while is_name_byte (byte ∷ bytes)) place)
 run-x place byte bytes in_run p = by_test (bytes_eq (take_while is_name_byte (byte ∷ bytes)) (codes "x")) refl p
   where
-    first_is : {x : ℕ} {xs : List ℕ} → x ∷ xs ≡ 120 ∷ [] → x ≡ 120
-    first_is e = cc
-
-    rest_is : {x : ℕ} {xs : List ℕ} → x ∷ xs ≡ 120 ∷ [] → xs ≡ []
-    rest_is e = cc
-
     by_test : (b : Bool) → bytes_eq (take_while is_name_byte (byte ∷ bytes)) (codes "x") ≡ b
         → IsStrict (cond b variable_token bad) → IsX byte bytes (cond b variable_token bad)
     by_test false other p = absurd p
     by_test true same p =
         let whole : byte ∷ take_while is_name_byte bytes ≡ 120 ∷ [] =
         sym (run-first byte bytes in_run) ∙ (bytes_eq-Decides (take_while is_name_byte (byte ∷ bytes)) (codes "x")).0 same in
-        record { is = first_is whole; ends = run-ended bytes (rest_is whole); token_is = refl }
+        record { is = head_is whole; ends = run-ended bytes (tail_is whole); token_is = refl }
 
 -- the bytes of such tokens of a strict reading are what was read
 bytes-lex

@@ -1,4 +1,4 @@
-ghost use Rattle.std.specs.Prelude.{◌≡◌, ◌↔◌, ℕ, Bool, true, List, length, Some};
+ghost use Rattle.std.specs.Prelude.{◌≡◌, ◌↔◌, ℕ, true, List, length, Some};
 ghost use Rattle.ld_term.specs.Terms.{Term};
 ghost use Rattle.ld_term.specs.Written.{Written};
 ghost use Rattle.ld_term.specs.Tokens.{tokens_of, tokens_from};

@@ -1,4 +1,4 @@
-ghost use Rattle.std.specs.Prelude.{◌≡◌, ℕ, ◌≤◌, ◌∷◌, ◌++◌, true, false, List, length, Some, IfOk, IfErr};
+ghost use Rattle.std.specs.Prelude.{◌≡◌, ◌≤◌, ◌∷◌, ◌++◌, true, false, List, length, Some, IfOk, IfErr};
 ghost use Rattle.ld_term.specs.Terms.{Term};
 ghost use Rattle.ld_term.specs.Written.{Written, HasNoName};
 ghost use Rattle.ld_term.specs.Tokens.{Token, tokens_of, tokens_from};

@@ -18,12 +18,6 @@ use Rattle.perm_braid.proofs.EntryLemmas.{swapped_from_swap_of_places, IsArrange
 
 -- ---- Exchanges ----
 
--- exchanges keep the lengths
-pub Passes-length : {a z c y : List ℕ} → Passes a z c y → (length c ≡ length a) × (length y ≡ length z)
-Passes-length rest = (refl, refl)
-Passes-length {a} {z} (pass i low high can more) =
-    let later = Passes-length more in (later.0 ∙ length-swapped i a, later.1 ∙ length-swapped i z)
-
 -- one more
 pub Passes-more
     : {a z c y : List ℕ} (i : ℕ)
@@ -220,17 +214,6 @@ IsSunk-swap a z c y d x from at sunk low can is_d is_x =
     IsSunk-step a z c y d x from at sunk low can
     (swapped_from_swap_of_places c d at (at + 1) low refl (omega arith) (is_d ∙ ap (swap c (at - 1)) (sym e)))
     (swapped_from_swap_of_places y x at (at + 1) low refl (omega (arith, sunk.same)) (is_x ∙ ap (swap y (at - 1)) (sym e)))
-
--- where it can't pass, nothing does
-pub IsSunk-ends
-    : (a z c y : List ℕ) (from at : ℕ)
-    → IsSunk a z c y from at
-    → (1 ≤ at → CanPass c y at (at + 1) → ⊥)
-    → IsStill c y (from + 1)
-IsSunk-ends a z c y from at sunk not_here k low less may = elim (cases_eq k at) [
-  | inl e ↦ not_here (omega (arith, e, low)) (subst (λ j. CanPass c y j (j + 1)) e may)
-  | inr other ↦ sunk.still k low (omega arith) other may
-]
 
 -- ---- The loops ----
 

@@ -21,11 +21,6 @@ entry_get (x ∷ a) (suc k) = entry_get a k
 pub entry_at : (a : List ℕ) (i k : ℕ) → i ≡ k + 1 → entry a i ≡ get_or a k 0
 entry_at a i k at = let e : i ≡ suc k = omega (arith, at) in rw e (entry_get a k)
 
--- there is no entry at place 0
-pub entry-zero : (a : List ℕ) → entry a 0 ≡ 0
-entry-zero [] = refl
-entry-zero (x ∷ a) = refl
-
 -- lists with the same entries are equal
 pub same_entries
     : (a b : List ℕ)
@@ -148,15 +143,6 @@ pub IsOrder-entry
     → entry a (place_of a e) ≡ e
 IsOrder-entry {n} {a} order e low high =
     entry-place_of a e (omega (arith, order.size, order.has e low high))
-
--- places undo the entries of an order
-pub IsOrder-undoes : {n : ℕ} {a : List ℕ} → IsOrder n a → Undoes n a (place_of a)
-IsOrder-undoes {n} {a} order = record {
-  size = order.size;
-  within = order.within;
-  back = order.distinct;
-  forth = λ e low high. (place_low a e, order.has e low high, IsOrder-entry order e low high);
-}
 
 -- ---- The identity and the half turn ----
 

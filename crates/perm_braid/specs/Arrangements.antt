@@ -38,7 +38,7 @@ abbrev pub place_of : List ℕ → ℕ → ℕ
 place_of [] e = 1
 place_of (x ∷ a) e = if x == e then 1 else suc (place_of a e)
 
--- The place of each number from 1 to the length: of `2 3 1` it is `3 1 2`.
+-- The place of each number from 1 to the length: of `2 3 1` it is `3 1 2`. No public clause cites it.
 abbrev pub places_of : List ℕ → List ℕ
 places_of a = map (place_of a) (range_with_len 1 (length a))
 

@@ -10,7 +10,7 @@
 --   IsStill a z m              that is so of no neighbours at the places below m
 --   Passes a z c y             such neighbours are exchanged in both lists, from a, z to c, y
 --
--- The laws stand in `proofs/MoveLemmas.antt` and `proofs/PassingLemmas.antt`.
+-- The laws stand in `proofs/MoveLemmas.antt` and `proofs/PassingLemmas.antt`. No public clause cites the last three.
 use Rattle.std.specs.Prelude.{ℕ, ◌+◌, ◌<◌, ◌≤◌, List, ◌++◌, length}
 use Rattle.braid_word.specs.Words.{Letter}
 use Rattle.braid_word.specs.Equivalence.{EquivalentOn}

@@ -2,7 +2,6 @@
 
 ghost use Rattle.std.specs.Prelude.{◌≡◌, ◌+◌, ◌-◌, ◌<◌, ◌≤◌, ◌↔◌, length, IsTrue, IsOk, IfOk};
 ghost use Rattle.std.specs.List.{swap};
-ghost use Rattle.smallvec.specs.SmallVec.{small_vec_len};
 ghost use Rattle.perm_braid.specs.Arrangements.{entry, flip, identity, half_turn, IsOrder, places_of};
 ghost use Rattle.perm_braid.specs.GreedyPairs.{CanPass};
 

@@ -2,14 +2,14 @@
 --
 -- What was given for some bytes are the answers to their whole lines (`heard_all-text`), and with the
 -- answer to what stands behind the last LF they are those to all lines (`heard_all-ended`).
-use Rattle.std.proofs.Common.{◌≡◌, ◌≢◌, ℕ, ◌<◌, ◌==◌, List, [], ◌∷◌, ◌++◌, length, refl, ap, sym, ◌∙◌, inl, inr, arith, append_assoc}
+use Rattle.std.proofs.Common.{◌≡◌, ℕ, ◌<◌, ◌==◌, List, [], ◌∷◌, ◌++◌, length, refl, ap, sym, ◌∙◌, inl, inr, arith, append_assoc}
 use Rattle.std.specs.List.{onto_first}
-use Rattle.std.proofs.lemmas.Bool.{cases_Bool, cases_eq, eq-eqb, ne_eqb}
+use Rattle.std.proofs.lemmas.Bool.{cases_Bool, cases_eq, eq-eqb}
 use Rattle.std.proofs.lemmas.List.{append-nil}
-use Rattle.wb_base.specs.Lines.{lines_of}
-use Rattle.wb_base.proofs.LineLemmas.{lines_of-cons}
+use Rattle.wb_base.specs.Lines.{lines_of, onto_line, cut, whole_lines}
+use Rattle.wb_base.proofs.LineLemmas.{lines_of-cons, cut-lf, cut-cons}
 use Rattle.session_run.specs.Jobs.{Job}
-use Rattle.session_run.specs.Conversation.{Talk, heard_all, silent, last_answer, answer_to, answers, jobs_after, whole_lines, onto_whole}
+use Rattle.session_run.specs.Conversation.{Talk, heard_all, silent, last_answer, answer_to, answers, jobs_after}
 use Rattle.session_run.proofs.TalkLemmas.{heard_all-append, heard-lf, heard-other}
 
 -- ---- Bytes in front of the first line ----
@@ -37,10 +37,10 @@ begun-nil (text ∷ texts) = refl
 
 -- one byte more in front of a whole line
 onto_lines-more
-    : (rest : List ℕ) (x : ℕ) (texts : List (List ℕ))
-    → onto_lines rest (onto_whole x texts) ≡ onto_lines (rest ++ x ∷ []) texts
-onto_lines-more rest x [] = refl
-onto_lines-more rest x (text ∷ texts) = ap (λ z. z ∷ texts) (sym (append_assoc rest (x ∷ []) text))
+    : (rest : List ℕ) (x : ℕ) (parts : List (List ℕ) × List ℕ)
+    → onto_lines rest (onto_line x parts).0 ≡ onto_lines (rest ++ x ∷ []) parts.0
+onto_lines-more rest x ([], behind) = refl
+onto_lines-more rest x (text ∷ texts, behind) = ap (λ z. z ∷ texts) (sym (append_assoc rest (x ∷ []) text))
 
 -- one byte more in front of a line
 begun-more
@@ -75,14 +75,6 @@ last-answered : (jobs : List Job) (rest : List ℕ) → last_answer jobs rest �
 last-answered jobs [] = refl
 last-answered jobs (r ∷ rest) = sym (append-nil (answer_to jobs (r ∷ rest)))
 
--- an LF ends a whole line
-whole_lines-lf : (x : ℕ) (xs : List ℕ) → x ≡ 10 → whole_lines (x ∷ xs) ≡ [] ∷ whole_lines xs
-whole_lines-lf x xs is = rw (eq-eqb x 10 is) refl
-
--- another byte stands in the first
-whole_lines-other : (x : ℕ) (xs : List ℕ) → x ≢ 10 → whole_lines (x ∷ xs) ≡ onto_whole x (whole_lines xs)
-whole_lines-other x xs other = rw (ne_eqb x 10 other) refl
-
 -- an LF ends a line
 lines_of-lf : (x : ℕ) (xs : List ℕ) → x ≡ 10 → lines_of (x ∷ xs) ≡ [] ∷ lines_of xs
 lines_of-lf x xs is = rw (eq-eqb x 10 is) refl
@@ -108,11 +100,11 @@ heard_all-given t (x ∷ xs) = elim (cases_eq x 10) [
       ∙ heard_all-given (answered t) xs
       ∙ ap (λ z. (answered t).text ++ answers (answered t).jobs z) (onto_lines-nil (whole_lines xs))
       ∙ append_assoc t.text (answer_to t.jobs t.rest) (answers (answered t).jobs (whole_lines xs))
-      ∙ ap (λ z. t.text ++ answers t.jobs z) (sym (ap (onto_lines t.rest) (whole_lines-lf x xs is) ∙ onto_lines-lf t.rest (whole_lines xs)))
+      ∙ ap (λ z. t.text ++ answers t.jobs z) (sym (ap (λ parts. onto_lines t.rest parts.0) (cut-lf x xs is) ∙ onto_lines-lf t.rest (whole_lines xs)))
   | inr other ↦
       ap (λ z. (heard_all z xs).text) (heard-other t x other)
       ∙ heard_all-given (longer t x) xs
-      ∙ ap (λ z. t.text ++ answers t.jobs z) (sym (ap (onto_lines t.rest) (whole_lines-other x xs other) ∙ onto_lines-more t.rest x (whole_lines xs)))
+      ∙ ap (λ z. t.text ++ answers t.jobs z) (sym (ap (λ parts. onto_lines t.rest parts.0) (cut-cons x xs other) ∙ onto_lines-more t.rest x (cut xs)))
 ]
 
 -- the lines of bytes are the whole ones, and what stands behind the last LF
@@ -125,13 +117,13 @@ heard_all-lines t (x ∷ xs) = elim (cases_eq x 10) [
       ap (begun t.rest) (lines_of-lf x xs is)
       ∙ begun-lf t.rest (lines_of xs)
       ∙ ap (λ z. t.rest ∷ z) (sym (begun-nil (lines_of xs)) ∙ heard_all-lines (answered t) xs ∙ ap (λ z. z ++ last_line (heard_all (answered t) xs).rest) (onto_lines-nil (whole_lines xs)))
-      ∙ ap (λ z. z ++ last_line (heard_all (answered t) xs).rest) (sym (ap (onto_lines t.rest) (whole_lines-lf x xs is) ∙ onto_lines-lf t.rest (whole_lines xs)))
+      ∙ ap (λ z. z ++ last_line (heard_all (answered t) xs).rest) (sym (ap (λ parts. onto_lines t.rest parts.0) (cut-lf x xs is) ∙ onto_lines-lf t.rest (whole_lines xs)))
       ∙ ap (λ z. onto_lines t.rest (whole_lines (x ∷ xs)) ++ last_line (heard_all z xs).rest) (sym (heard-lf t x is))
   | inr other ↦
       ap (begun t.rest) (lines_of-cons x xs other)
       ∙ begun-more t.rest x (lines_of xs)
       ∙ heard_all-lines (longer t x) xs
-      ∙ ap (λ z. z ++ last_line (heard_all (longer t x) xs).rest) (sym (ap (onto_lines t.rest) (whole_lines-other x xs other) ∙ onto_lines-more t.rest x (whole_lines xs)))
+      ∙ ap (λ z. z ++ last_line (heard_all (longer t x) xs).rest) (sym (ap (λ parts. onto_lines t.rest parts.0) (cut-cons x xs other) ∙ onto_lines-more t.rest x (cut xs)))
       ∙ ap (λ z. onto_lines t.rest (whole_lines (x ∷ xs)) ++ last_line (heard_all z xs).rest) (sym (heard-other t x other))
 ]
 
@@ -224,16 +216,19 @@ Follows-cons : (text : List ℕ) (lines first : List (List ℕ)) → Follows lin
 Follows-cons text lines first follows = record { others = follows.others; parts = ap (λ z. text ∷ z) follows.parts }
 
 -- one byte in front of both
-Follows-onto : (x : ℕ) (lines first : List (List ℕ)) → Follows lines first → Follows (onto_whole x lines) (onto_whole x first)
-Follows-onto x lines [] follows = record { others = onto_whole x lines; parts = refl }
-Follows-onto x lines (text ∷ first) follows = rw follows.parts record { others = follows.others; parts = refl }
+Follows-onto
+    : (x : ℕ) (all front : List (List ℕ) × List ℕ)
+    → Follows all.0 front.0
+    → Follows (onto_line x all).0 (onto_line x front).0
+Follows-onto x all ([], behind) follows = record { others = (onto_line x all).0; parts = refl }
+Follows-onto x (lines, rest) (text ∷ first, behind) follows = rw follows.parts record { others = follows.others; parts = refl }
 
 -- the whole lines of a front are the first of all
 pub whole_lines-front : (xs ys : List ℕ) → Follows (whole_lines (xs ++ ys)) (whole_lines xs)
 whole_lines-front [] ys = record { others = whole_lines ys; parts = refl }
 whole_lines-front (x ∷ xs) ys = elim (cases_Bool (x == 10)) [
-  | inl ends ↦ rw ends (Follows-cons [] _ _ (whole_lines-front xs ys))
-  | inr other ↦ rw other (Follows-onto x _ _ (whole_lines-front xs ys))
+  | inl ends ↦ rw (whole_lines, ends) (Follows-cons [] _ _ (whole_lines-front xs ys))
+  | inr other ↦ rw (whole_lines, other) (Follows-onto x (cut (xs ++ ys)) (cut xs) (whole_lines-front xs ys))
 ]
 
 -- One more line at least follows these.
@@ -247,9 +242,12 @@ Precedes-cons : (text : List ℕ) (lines first : List (List ℕ)) → Precedes l
 Precedes-cons text lines first before = record { next = before.next; others = before.others; parts = ap (λ z. text ∷ z) before.parts }
 
 -- one byte in front of both
-Precedes-onto : (x : ℕ) (lines first : List (List ℕ)) → Precedes lines first → Precedes (onto_first x lines) (onto_whole x first)
-Precedes-onto x lines [] before = rw before.parts record { next = x ∷ before.next; others = before.others; parts = refl }
-Precedes-onto x lines (text ∷ first) before = rw before.parts record { next = before.next; others = before.others; parts = refl }
+Precedes-onto
+    : (x : ℕ) (lines : List (List ℕ)) (front : List (List ℕ) × List ℕ)
+    → Precedes lines front.0
+    → Precedes (onto_first x lines) (onto_line x front).0
+Precedes-onto x lines ([], behind) before = rw before.parts record { next = x ∷ before.next; others = before.others; parts = refl }
+Precedes-onto x lines (text ∷ first, behind) before = rw before.parts record { next = before.next; others = before.others; parts = refl }
 
 -- some bytes have a line
 lines_of-some : (y : ℕ) (ys : List ℕ) → Precedes (lines_of (y ∷ ys)) []
@@ -267,8 +265,8 @@ pub lines_of-front : (xs ys : List ℕ) → 0 < length ys → Precedes (lines_of
 lines_of-front [] [] some = absurd (omega arith)
 lines_of-front [] (y ∷ ys) some = lines_of-some y ys
 lines_of-front (x ∷ xs) ys some = elim (cases_Bool (x == 10)) [
-  | inl ends ↦ rw ends (Precedes-cons [] _ _ (lines_of-front xs ys some))
-  | inr other ↦ rw other (Precedes-onto x _ _ (lines_of-front xs ys some))
+  | inl ends ↦ rw (whole_lines, ends) (Precedes-cons [] _ _ (lines_of-front xs ys some))
+  | inr other ↦ rw (whole_lines, other) (Precedes-onto x _ (cut xs) (lines_of-front xs ys some))
 ]
 
 -- the same, where they end with an open line

@@ -1,7 +1,7 @@
 -- The fields of a text, from the first on.
 use Rattle.std.proofs.Common.{◌≡◌, ℕ, suc, zero, ◌+◌, ◌-◌, ◌==◌, ◌<◌, ◌≤◌, Bool, true, false, not, List, [], ◌∷◌, length, take, drop, filter, position, Some, None, refl, ap, sym, ◌∙◌, inl, inr, arith}
 use Rattle.std.proofs.lemmas.Bool.{cases_Bool, cases_lt, le-ltb, lt-ltb, ne_eqb}
-use Rattle.std.proofs.lemmas.List.{take_all, length-drop}
+use Rattle.std.proofs.lemmas.List.{take_rest}
 use Rattle.std.proofs.lemmas.List.Splits.{slice_split_first, length-slice_split}
 use Rattle.std.specs.List.{slice_split, position_or_len}
 use Rattle.session_run.specs.CommandLines.{fields_of, opened_by, command_by, command_of}
@@ -127,10 +127,6 @@ fields_of-more first rest end other is within =
 
 -- ---- What the reader finds ----
 
--- the rest of a text, as a slice of it
-rest_of : (text : List ℕ) (k : ℕ) → take (length text - k) (drop k text) ≡ drop k text
-rest_of text k = take_all (length text - k) (drop k text) (omega (arith, length-drop k text))
-
 pub field_none : (text : List ℕ) → position is_other text ≡ None → fields_of text ≡ []
 field_none text none = fields_of-blank text (place-None is_other text none)
 
@@ -142,7 +138,7 @@ pub field_last
 field_last text k start none =
     let (is, within) = place-Some is_other text k start in
     let s = Starts-other text k is within in
-    let whole : take (length text - k) (drop k text) ≡ s.first ∷ s.rest = rest_of text k ∙ s.dropped in
+    let whole : take (length text - k) (drop k text) ≡ s.first ∷ s.rest = take_rest text k ∙ s.dropped in
     let past : length (s.first ∷ s.rest) ≤ position_or_len is_space (s.first ∷ s.rest)
     = place-None is_space (s.first ∷ s.rest) (rw whole at none) in
     rw whole (s.fields ∙ fields_of-one s.first s.rest past)
@@ -156,9 +152,9 @@ pub field_first
 field_first text k end start found =
     let (is, within) = place-Some is_other text k start in
     let s = Starts-other text k is within in
-    let whole : take (length text - k) (drop k text) ≡ s.first ∷ s.rest = rest_of text k ∙ s.dropped in
+    let whole : take (length text - k) (drop k text) ≡ s.first ∷ s.rest = take_rest text k ∙ s.dropped in
     let (at, below) = place-Some is_space (s.first ∷ s.rest) end (rw whole at found) in
-    rw (whole, rest_of (s.first ∷ s.rest) (end + 1))
+    rw (whole, take_rest (s.first ∷ s.rest) (end + 1))
     (s.fields ∙ fields_of-more s.first s.rest end s.other at below)
 
 -- more fields than three behind `open`
@@ -196,7 +192,7 @@ pub part_first
     → slice_split (λ byte. byte == mark) text ≡ take at text ∷ slice_split (λ byte. byte == mark) (take (length text - (at + 1)) (drop (at + 1) text))
 part_first mark text at found =
     let (is, within) = place-Some (λ byte. byte == mark) text at found in
-    rw (rest_of text (at + 1)) (rw is (slice_split_first (λ byte. byte == mark) text 0 (omega (arith, is, within))))
+    rw (take_rest text (at + 1)) (rw is (slice_split_first (λ byte. byte == mark) text 0 (omega (arith, is, within))))
 
 -- a line with more than two bars is no command
 pub command_of-more

@@ -7,14 +7,14 @@ use Rattle.std.proofs.lemmas.Bool.{lt-ltb, le-ltb, cases_lt}
 use Rattle.std.proofs.lemmas.List.{append-nil, length-append, take-append-le, take-append-drop, length-drop}
 use Rattle.std.proofs.Math.Seq.{take-append_seam}
 use Rattle.std.specs.Io.KnownBytes.{append_known, prepend_known, IsAtEnd}
-use Rattle.wb_base.specs.Lines.{lines_of}
+use Rattle.wb_base.specs.Lines.{lines_of, whole_lines}
 use Rattle.wb_base.specs.Streams.{PutsFront, ReadsAll, Rose, Skips, one_more}
 use Rattle.wb_base.proofs.StreamLemmas.{append_known-nil, append_known-two, prepend_known-append}
 use Rattle.wb_base.specs.declared.status.Status.{Status}
 use Rattle.wb_base.specs.declared.status.Status.TheVariants.{Done, Refused, Words, Input, Limit, ReadFault, WriteFault, Memory}
 use Rattle.session_run.specs.declared.TheConstants.{MAX_INPUT, MAX_PIECE}
 use Rattle.session_run.specs.Jobs.{Job}
-use Rattle.session_run.specs.Conversation.{answers, whole_lines, limit_line, last_answer, session_answer, silent, heard_all}
+use Rattle.session_run.specs.Conversation.{answers, limit_line, last_answer, session_answer, silent, heard_all}
 use Rattle.session_run.specs.Serving.{settled, told, IsCutOff, IsShort, IsTold, Ends, Leaves, Rises, Passes, HasServed, HasHeard, IsAtLast, IsPast}
 use Rattle.session_run.proofs.TalkLemmas.{heard_all-append, Grows-all}
 use Rattle.session_run.proofs.ConversationLemmas.{heard_all-text, heard_all-ended, heard_all-more_bytes, whole_lines-front, Precedes, lines_of-front, lines_of-open}

@@ -5,7 +5,6 @@ use Rattle.braid_word.specs.Notation.{word_of, number_word_of}
 use Rattle.session_run.specs.declared.command.Command.TheVariants.{Begin, Turn, Close}
 use Rattle.session_run.specs.CommandLines.{fields_of, command_of}
 use Rattle.session_run.specs.Jobs.{Job, more_turns, after_all}
-use Rattle.session_run.specs.Conversation.{whole_lines}
 
 -- spaces before, between and behind fields count for nothing
 fields_row : fields_of (codes " turn  a 1 ") ≡ codes "turn" ∷ (codes "a" ∷ (codes "1" ∷ []))
@@ -51,7 +50,3 @@ order_row
     ≡ codes "b" ∷ (codes "a" ∷ [])
 unfolding a_job
 order_row = refl
-
--- of `a`, an LF and `b` the line `a` is whole
-whole_lines_row : whole_lines (97 ∷ (10 ∷ (98 ∷ []))) ≡ (97 ∷ []) ∷ []
-whole_lines_row = refl

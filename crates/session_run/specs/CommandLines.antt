@@ -10,11 +10,11 @@
 --   command_of line       the command that a line is
 --   HasSmallNumbers c     the numbers of a command are up to 100,000
 --   Gives result read     what a reader answered is what is read, unless memory ran out
-use Rattle.std.specs.Prelude.{◌≡◌, ℕ, ◌≤◌, ◌&&◌, ◌==◌, nat_lt, ◌+◌, not, if◌then◌else◌, List, [], ◌∷◌, length, filter, codes, Option, Some, None, Result, Ok, Err}
+use Rattle.std.specs.Prelude.{◌≡◌, ℕ, ◌≤◌, ◌==◌, not, if◌then◌else◌, List, [], ◌∷◌, length, filter, codes, Option, Some, None, Result, Ok, Err}
 use Rattle.std.specs.List.{slice_split}
 use Rattle.std.specs.Str.{bytes_eq}
 use Rattle.wb_base.specs.Names.{is_name}
-use Rattle.wb_base.specs.Numbers.{number_at}
+use Rattle.wb_base.specs.Numbers.{number_within}
 use Rattle.braid_word.specs.Words.{Letter}
 use Rattle.braid_word.specs.Notation.{word_of}
 use Rattle.braid_word.specs.declared.reader.WordErr.{WordErr}
@@ -34,14 +34,9 @@ fields_of text = filter (λ (part : List ℕ). not (length part == 0)) (slice_sp
 abbrev pub name_of : List ℕ → Option (List ℕ)
 name_of field = if is_name field then Some field else None
 
--- The number that a field is, where it is no more than 100,000 and the number's text is all of the field.
-abbrev pub small_by : ℕ → Option (ℕ × ℕ) → Option ℕ
-small_by size None = None
-small_by size (Some (value, digits)) =
-    if (digits == size) && nat_lt value (MAX_BOUND + 1) then Some value else None
-
+-- The number that a field is, up to 100,000.
 abbrev pub small_number : List ℕ → Option ℕ
-small_number field = small_by (length field) (number_at field)
+small_number field = number_within 0 MAX_BOUND field
 
 -- ---- Lines without a bar ----
 

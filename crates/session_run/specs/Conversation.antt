@@ -5,15 +5,14 @@
 --   jobs_after jobs line     the jobs behind a line; a line that is no command changes nothing
 --   answer_to jobs line      the text that answers a line
 --   answers jobs lines       the text that answers lines, the first first
---   whole_lines bytes        the lines that an LF ends
 --   session_answer input     the status and the text of a session over a whole input
 --
 --   Talk                     the jobs, the bytes behind the last LF, and all text so far
 --   heard t byte             what a byte makes of it
 --   heard_all t bytes        what bytes make of it, the first first
 use Rattle.std.specs.Prelude.{ℕ, ◌==◌, nat_lt, if◌then◌else◌, List, [], ◌∷◌, ◌++◌, length, take, codes, decimal, Option, Some, None}
-use Rattle.wb_base.specs.Lines.{line, lines_of}
-use Rattle.wb_base.specs.declared.status.Status.{Status}
+use Rattle.wb_base.specs.Lines.{line, lines_of, whole_lines}
+use Rattle.wb_base.specs.Status.{Answer, answer}
 use Rattle.wb_base.specs.declared.status.Status.TheVariants.{Done, Limit}
 use Rattle.session_run.specs.declared.TheConstants.{MAX_INPUT}
 use Rattle.session_run.specs.declared.command.Command.{Command}
@@ -45,31 +44,16 @@ answers jobs (text ∷ texts) = answer_to jobs text ++ answers (jobs_after jobs 
 
 -- ---- Whole inputs ----
 
--- A byte in front of the first of these lines, if there is one.
-abbrev pub onto_whole : ℕ → List (List ℕ) → List (List ℕ)
-onto_whole byte [] = []
-onto_whole byte (text ∷ texts) = (byte ∷ text) ∷ texts
-
--- The lines that an LF ends, without it: of `a LF b` it is `a` alone.
-abbrev pub whole_lines : List ℕ → List (List ℕ)
-whole_lines [] = []
-whole_lines (byte ∷ bytes) = if byte == 10 then [] ∷ whole_lines bytes else onto_whole byte (whole_lines bytes)
-
 -- It says that the input has more bytes than it may have.
 abbrev pub limit_line : List ℕ
 limit_line = line (codes "limit input " ++ decimal MAX_INPUT)
-
--- How a session ends, and all that it says.
-pub record Answer : Type 0 where
-  pub status : Status
-  pub text : List ℕ
 
 -- All lines are answered; of an input that is too long, those whose LF stands within the limit, and then
 -- the limit is named.
 abbrev pub session_answer : List ℕ → Answer
 session_answer input =
-    if nat_lt MAX_INPUT (length input) then (record { status = Limit; text = answers [] (whole_lines (take MAX_INPUT input)) ++ limit_line })
-    else (record { status = Done; text = answers [] (lines_of input) })
+    if nat_lt MAX_INPUT (length input) then answer Limit (answers [] (whole_lines (take MAX_INPUT input)) ++ limit_line)
+    else answer Done (answers [] (lines_of input))
 
 -- ---- Byte by byte ----
 
@@ -93,7 +77,8 @@ heard_all t (byte ∷ bytes) = heard_all (heard t byte) bytes
 abbrev pub silent : Talk
 silent = record { jobs = []; rest = []; text = [] }
 
--- What answers a last line without LF, which is none where no byte stands behind the last LF.
+-- What answers a last line without LF, which is none where no byte stands behind the last LF. No public clause
+-- cites it.
 abbrev pub last_answer : List Job → List ℕ → List ℕ
 last_answer jobs [] = []
 last_answer jobs (byte ∷ bytes) = answer_to jobs (byte ∷ bytes)

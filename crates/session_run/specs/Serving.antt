@@ -12,13 +12,14 @@
 --                               behind its limit; no public clause cites these
 use Rattle.std.specs.Prelude.{◌≡◌, ℕ, ◌+◌, ◌-◌, ◌<◌, ◌≤◌, List, [], ◌++◌, length, take, Option, Some, None}
 use Rattle.std.specs.Io.KnownBytes.{prepend_known, append_known, IsAtEnd}
-use Rattle.wb_base.specs.Lines.{lines_of}
+use Rattle.wb_base.specs.Lines.{lines_of, whole_lines}
+use Rattle.wb_base.specs.Status.{Answer}
 use Rattle.wb_base.specs.Streams.{PutsFront, Rose}
 use Rattle.wb_base.specs.declared.status.Status.{Status}
 use Rattle.wb_base.specs.declared.status.Status.TheVariants.{Done, Refused, Words, Input, Limit, ReadFault, WriteFault, Memory}
 use Rattle.session_run.specs.declared.TheConstants.{MAX_INPUT, MAX_PIECE}
 use Rattle.session_run.specs.Jobs.{Job}
-use Rattle.session_run.specs.Conversation.{Answer, answers, whole_lines, limit_line, session_answer, silent, heard_all}
+use Rattle.session_run.specs.Conversation.{answers, limit_line, session_answer, silent, heard_all}
 
 -- The bytes taken, without the last 4,096 of them: their whole lines were answered in any case.
 abbrev pub settled : List ℕ → List ℕ

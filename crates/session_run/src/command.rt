@@ -1,16 +1,15 @@
 // Command lines, and the commands that they are.
 ghost use Rattle.std.specs.Prelude.{◌≡◌, ◌≤◌, ◌==◌, ◌∷◌, ◌↔◌, [], not, IsTrue, Ok, MatchOption, IfOk, IfSome, Err, IsErr, position};
 ghost use Rattle.std.specs.List.{slice_split};
-ghost use Rattle.wb_base.specs.Names.{is_name};
 ghost use Rattle.braid_word.specs.Notation.{word_of};
 ghost use Rattle.handle_reduce.specs.declared.TheConstants.{MAX_BOUND};
-ghost use Rattle.session_run.specs.CommandLines.{fields_of, name_of, small_number, turn_of, list_of, only_name, named_by, plain_of, head_of, opened_by, begin_by, command_of, HasSmallNumbers, Gives};
+ghost use Rattle.session_run.specs.CommandLines.{fields_of, name_of, small_number, turn_of, only_name, named_by, plain_of, head_of, opened_by, begin_by, command_of, HasSmallNumbers, Gives};
 
 use braid_word::{Word, WordErr, read_word};
 use handle_reduce::MAX_BOUND;
 use std::alloc::Global;
 use thiserror::Error;
-use wb_base::{Name, read_number};
+use wb_base::{Name, read_within};
 
 /// A command of a session. Its numbers have to be at most 100,000, as those that are read are.
 #[derive(Debug, Drop)]
@@ -93,12 +92,7 @@ fn read_small(field: &[u8]) -> Option<u32>
     ensures number { result ≡ small_number field.now }
     ensures small { IfSome result (λ n. n ≤ MAX_BOUND) }
 {
-    let (value, digits) = read_number(field)?;
-    if digits == field.len() && value <= u64::from(MAX_BOUND) {
-        Some(value as u32)
-    } else {
-        None
-    }
+    read_within(field, 0, MAX_BOUND)
 }
 
 // Whether a text has no field.

@@ -1,8 +1,8 @@
-ghost use Rattle.std.specs.Prelude.{◌≡◌, ◌≤◌, ◌++◌, IfOk, length};
+ghost use Rattle.std.specs.Prelude.{◌≡◌, ◌≤◌, IfOk, length};
 ghost use Rattle.braid_word.specs.Words.{quotient};
 ghost use Rattle.braid_word.specs.declared.TheConstants.{MAX_LETTERS};
 ghost use Rattle.handle_reduce.specs.declared.TheConstants.{MAX_BOUND};
-ghost use Rattle.session_run.specs.Jobs.{more_turns, state_of};
+ghost use Rattle.session_run.specs.Jobs.{more_turns};
 ghost use Rattle.session_run.specs.Replies.{line_of};
 ghost use Rattle.session_run.specs.ReplyText.{job_trace, verdict_at};
 ghost use Rattle.wb_base.specs.Streams.{HasCause, Puts};

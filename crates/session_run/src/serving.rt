@@ -1,9 +1,9 @@
 // A session over a source and a sink.
 ghost use Rattle.std.specs.Prelude.{◌≡◌, ◌≢◌, ℕ, ◌+◌, ◌<◌, ◌≤◌, ◌++◌, List, [], length, take, Err, OnOk, IfSome};
 ghost use Rattle.std.specs.Io.KnownBytes.{append_known, prepend_known};
-ghost use Rattle.wb_base.specs.Lines.{lines_of};
+ghost use Rattle.wb_base.specs.Lines.{lines_of, whole_lines};
 ghost use Rattle.wb_base.specs.Streams.{HasCause, Puts, ReadsAll, Rose, Skips};
-ghost use Rattle.session_run.specs.Conversation.{answers, whole_lines, limit_line, last_answer, session_answer};
+ghost use Rattle.session_run.specs.Conversation.{answers, limit_line, last_answer, session_answer};
 ghost use Rattle.session_run.specs.Serving.{told, IsCutOff, IsShort, IsTold, HasServed};
 
 use crate::session::Session;

@@ -3,7 +3,6 @@ ghost use Rattle.std.specs.Prelude.{◌≡◌, ◌≢◌, ℕ, ◌<◌, ◌≤�
 ghost use Rattle.std.specs.Io.KnownBytes.{append_known};
 ghost use Rattle.wb_base.specs.Streams.{Puts, Rose};
 ghost use Rattle.session_run.specs.Conversation.{jobs_after, answer_to, heard_all};
-ghost use Rattle.session_run.specs.CommandLines.{command_of};
 ghost use Rattle.session_run.specs.declared.talk.Stop.TheVariants.{Fault};
 
 use crate::command::{CommandErr, read_command};

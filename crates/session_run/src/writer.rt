@@ -1,4 +1,4 @@
-ghost use Rattle.std.specs.Prelude.{◌≡◌, ◌++◌, codes, decimal, map};
+ghost use Rattle.std.specs.Prelude.{◌≡◌, ◌++◌, map};
 ghost use Rattle.std.specs.List.{flat_map};
 ghost use Rattle.wb_base.specs.Lines.{line};
 ghost use Rattle.wb_base.specs.Streams.{HasCause, Puts};
@@ -52,7 +52,7 @@ fn put_states<K: Sink>(sink: &mut K, session: &Session) -> Result<(), Failed>
 {
     for k in 0..session.job_count() {
         let Some(job) = session.job_at(k) else {
-            return Ok(());
+            unreachable!();
         };
         put_state(sink, job)?;
     }

@@ -1,7 +1,7 @@
 -- What requests do to a list of terms.
 --
--- The main lemmas are `ask_all-append`, `ask_all-extends`, `ask_all-has` and `ask_all-skip`.
-use Rattle.std.proofs.Common.{◌≡◌, ℕ, suc, ◌<◌, ◌≤◌, ◌⊎◌, inl, inr, Bool, true, false, if◌then◌else◌, nat_lt, List, [], ◌∷◌, ◌++◌, length, refl, sym, ap, ◌∙◌, subst, true≢false, arith, append_assoc, append-nil, length-append, get_or}
+-- The main lemmas are `ask_all-append`, `ask_all-Grants` and `ask_all-skip`.
+use Rattle.std.proofs.Common.{◌≡◌, ℕ, suc, ◌<◌, ◌≤◌, ◌⊎◌, inl, inr, Bool, true, false, if◌then◌else◌, nat_lt, List, [], ◌∷◌, ◌++◌, length, refl, sym, ap, ◌∙◌, subst, true≢false, arith, append_assoc, append-nil, get_or}
 use Rattle.std.proofs.lemmas.Bool.{and_parts, cases_Bool, lt-ltb, le-ltb}
 use Rattle.std.proofs.lemmas.List.{get_or_append_left}
 use Rattle.std.proofs.lemmas.List.Folds.{list_any_at, list_any-append}
@@ -147,11 +147,6 @@ Extends-trans {a} {b} {c} one two = record {
   added = one.added ++ two.added;
   is = two.is ∙ ap (λ z. z ++ two.added) one.is ∙ append_assoc a one.added two.added;
 }
-
--- the list is no shorter
-pub Extends-length : {old new : List Term} → Extends old new → length old ≤ length new
-Extends-length {old} {new} more =
-    let sum = ap length more.is ∙ length-append old more.added in omega (arith, sum)
 
 -- a number stands for the term that it stood for
 pub Extends-term_at

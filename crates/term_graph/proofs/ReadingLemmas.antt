@@ -18,7 +18,7 @@ use Rattle.term_graph.specs.declared.term_file.Limit.{Limit}
 use Rattle.term_graph.specs.declared.term_file.Limit.TheVariants.{Height, Nodes}
 use Rattle.term_graph.specs.declared.term_file.Reading.{Reading}
 use Rattle.term_graph.proofs.AskLemmas.{ask_all-deep, ask_all-full, ask_all-append}
-use Rattle.term_graph.proofs.RequestLemmas.{length-front, term_at-front, named_terms-front}
+use Rattle.term_graph.proofs.RequestLemmas.{length-front, named_terms-front, terms-front}
 
 -- ---- One line more ----
 
@@ -97,10 +97,6 @@ IsFirstFault-behind k names (l ∷ lines) (s ∷ read) line after e sound fault 
 
 -- ---- What is kept ----
 
--- The graph that has x alone.
-start : Asked
-start = answered (variable ∷ [])
-
 -- the answer to the requests of one line more, where the others were granted
 asked-push
     : (graph : List Term) (names : List (List ℕ × ℕ)) (read : List Line) (r : Line) (numbers : List ℕ) (answer : Asked)
@@ -137,23 +133,13 @@ full-push read r is =
     ∙ ap (λ z. ask_all z more) is
     ∙ ask_all-full more
 
--- numbers stand for their terms where the graph grows
-numbers-recursion
-    : (old new : List Term) (numbers : List ℕ)
-    → IsFront old new
-    → AllByRecursion (λ n. n < length old) numbers
-    → map (term_at new) numbers ≡ map (term_at old) numbers
-numbers-recursion old new [] front within = refl
-numbers-recursion old new (n ∷ numbers) front within =
-    rw (term_at-front old new n front within.0, numbers-recursion old new numbers front within.1) refl
-
 numbers-front
     : (old new : List Term) (numbers : List ℕ)
     → IsFront old new
     → All (λ n. n < length old) numbers
     → map (term_at new) numbers ≡ map (term_at old) numbers
 numbers-front old new numbers front within =
-    numbers-recursion old new numbers front (recursion_from_All (λ n. n < length old) numbers within)
+    terms-front old new numbers front (recursion_from_All (λ n. n < length old) numbers within)
 
 -- numbers are numbers of a graph that has grown
 within-front

@@ -40,7 +40,7 @@ pub term_at-front : (old new : List Term) (n : ℕ) → IsFront old new → n < 
 term_at-front old new n (more, is) below = ap (λ z. term_at z n) is ∙ get_or_append_left old more variable n below
 
 -- so do the numbers of a list
-terms-front
+pub terms-front
     : (old new : List Term) (numbers : List ℕ)
     → IsFront old new
     → AllByRecursion (λ n. n < length old) numbers

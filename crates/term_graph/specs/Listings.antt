@@ -33,7 +33,7 @@ abbrev pub add_new : List Term → List Term → List Term
 add_new listed [] = listed
 add_new listed (t ∷ ts) = add_new (if has_term t listed then listed else listed ++ (t ∷ [])) ts
 
--- With each term the list has the products of it.
+-- With each term the list has the products of it. No public clause cites it.
 pub record IsClosed (listed : List Term) : Type 0 where
   pub has : (t u : Term) → has_term t listed ≡ true → has_term u (products t) ≡ true → has_term u listed ≡ true
 

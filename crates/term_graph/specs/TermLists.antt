@@ -1,7 +1,7 @@
 -- The list of terms that a graph stands for, and the numbers of a term.
 --
--- A number stands for the term at its place in the list, counted from 0. Number 0 is x, the others are
--- products in order of making, all different, and the parts of each stand before it.
+-- A number stands for the term at its place in the list, counted from 0. The list begins with x; behind it
+-- come the products as they were made, no two the same, each behind its parts.
 -- Source: this project's own; the braid of a term is that of P. Dehornoy, Braids and Self-Distributivity,
 -- 2000.
 --

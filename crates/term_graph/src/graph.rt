@@ -1,4 +1,4 @@
-ghost use Rattle.std.specs.Prelude.{◌≡◌, ◌↔◌, ℕ, ◌+◌, ◌<◌, ◌≤◌, ◌++◌, ◌∷◌, [], length, true, false, IsTrue, IsOk, IfOk, IfErr, OnOk, OnErr, IsErrOf, MatchOption};
+ghost use Rattle.std.specs.Prelude.{◌≡◌, ◌↔◌, ◌+◌, ◌<◌, ◌≤◌, ◌++◌, ◌∷◌, [], length, true, false, IsTrue, IsOk, IfOk, IfErr, OnOk, OnErr, IsErrOf, MatchOption};
 ghost use Rattle.ld_term.specs.Terms.{variable, multiply, height, leaf_count};
 ghost use Rattle.ld_term.specs.declared.TheConstants.{MAX_HEIGHT};
 ghost use Rattle.term_graph.specs.declared.TheConstants.{MAX_NODES};
@@ -17,8 +17,8 @@ use std::rc::Rc;
 
 /// Terms that share their parts, seen as a list: a number stands for the term at its place.
 ///
-/// Number 0 is the variable; the others are products in order of making, all different, and the parts of each
-/// stand before it.
+/// The list begins with the variable; behind it come the products as they were made, no two the same, each behind
+/// its parts.
 #[derive(Drop)]
 pub struct TermGraph {
     alloc: Global,

@@ -1,5 +1,5 @@
-ghost use Rattle.std.specs.Prelude.{◌≡◌, ◌+◌, ◌<◌, ◌≤◌, ◌++◌, true, List, length, map, codes, decimal, slice_index_or, IfOk, OnOk};
-ghost use Rattle.ld_term.specs.Terms.{Term, variable, multiply};
+ghost use Rattle.std.specs.Prelude.{◌≡◌, ◌+◌, ◌<◌, ◌≤◌, ◌++◌, true, length, map, codes, decimal, slice_index_or, IfOk, OnOk};
+ghost use Rattle.ld_term.specs.Terms.{Term, multiply};
 ghost use Rattle.wb_base.specs.Streams.{HasCause, Puts};
 ghost use Rattle.term_graph.specs.Asks.{has_term};
 ghost use Rattle.term_graph.specs.TermLists.{term_at};

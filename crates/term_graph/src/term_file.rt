@@ -1,6 +1,5 @@
-ghost use Rattle.std.specs.Prelude.{◌≡◌, ℕ, ◌⊎◌, ◌↔◌, ◌+◌, ◌≤◌, ◌<◌, ◌++◌, ◌∷◌, [], List, length, true, false, All, None, Some, is_some, IfOk, IfErr, IsErrOf, OnOk};
+ghost use Rattle.std.specs.Prelude.{◌≡◌, ℕ, ◌⊎◌, ◌↔◌, ◌+◌, ◌≤◌, ◌<◌, [], List, length, true, false, All, None, Some, is_some, IfOk, IfErr, IsErrOf, OnOk};
 ghost use Rattle.std.specs.Map.{keys_of};
-ghost use Rattle.ld_term.specs.Terms.{variable};
 ghost use Rattle.ld_term.specs.TreeTexts.{written};
 ghost use Rattle.wb_base.specs.Lines.{lines_of};
 ghost use Rattle.term_graph.specs.Requests.{first_unknown};

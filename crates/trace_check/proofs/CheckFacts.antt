@@ -74,13 +74,14 @@ longest_row = refl
 long_row : stepped (replicate 99999 (letter 1 false)) (Insert 1 (letter 2 false)) ≡ Err Long
 long_row = refl
 
--- two reductions lead from the quotient to `1 -2`
+-- the letter between the ends of the first handle has a higher index
 between : (k : ℕ) → 1 < k → k < 3 → 1 < (at quotient_word k).index
 between zero low high = absurd (omega arith)
 between (suc zero) low high = absurd (omega arith)
 between (suc (suc zero)) low high = omega arith
 between (suc (suc (suc k))) low high = absurd (omega arith)
 
+-- two reductions lead from the quotient to `1 -2`
 steps_row : IsSteps quotient_word (Handle 2 4 ∷ Handle 1 2 ∷ []) (letter 1 false ∷ letter 2 true ∷ [])
 unfolding reduct
 steps_row = (

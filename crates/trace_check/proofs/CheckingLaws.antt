@@ -6,7 +6,7 @@ use Rattle.std.proofs.Common.{◌≡◌, ℕ, ◌+◌, ◌-◌, ◌^◌, ◌<◌
 use Rattle.std.specs.List.{AllByRecursion}
 use Rattle.std.proofs.lemmas.List.{append-nil, length-map}
 use Rattle.wb_base.specs.Streams.{one_more}
-use Rattle.wb_base.specs.Lines.{line}
+use Rattle.wb_base.specs.Lines.{cut, line}
 use Rattle.braid_word.specs.Words.{Letter, quotient}
 use Rattle.braid_word.specs.Notation.{IsReadable}
 use Rattle.braid_word.proofs.WordLemmas.{length-quotient}
@@ -24,7 +24,6 @@ use Rattle.trace_format.specs.TraceLines.{line_text, IsStepLine, IsShortTerm, Is
 use Rattle.trace_format.proofs.LineLaws.{line_text-no_lf}
 use Rattle.trace_format.proofs.TraceLaws.{tail_lines, step_lines, left_line, right_line, trace_lines, trace_text-lines}
 use Rattle.trace_check.specs.Accepted.{left_word, right_word, quotient_of, IsSteps, IsAccepted, Claim, claim_of, IsValid}
-use Rattle.trace_check.specs.Cutting.{cut}
 use Rattle.trace_check.specs.Checking.{claimed, walk, checked_of, Gives}
 use Rattle.trace_check.specs.declared.checked.CheckErr.{CheckErr}
 use Rattle.trace_check.specs.declared.replay.Replay.{Replay}

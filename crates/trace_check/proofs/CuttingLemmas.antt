@@ -4,15 +4,11 @@
 -- (`cut-rest`). What is cut is there (`cut-is`).
 use Rattle.std.proofs.Common.{◌≡◌, ◌≢◌, ℕ, suc, zero, ◌<◌, Bool, true, false, cond, eqb, List, [], ◌∷◌, ◌++◌, length, get_or, take, drop, ap, refl, ◌∙◌, arith}
 use Rattle.std.specs.List.{flat_map}
-use Rattle.std.proofs.lemmas.Bool.{ne_eqb, eqb-true}
-use Rattle.wb_base.specs.Lines.{line}
-use Rattle.trace_check.specs.Cutting.{onto_line, empty_line, cut}
+use Rattle.std.proofs.lemmas.Bool.{eqb-true}
+use Rattle.wb_base.specs.Lines.{onto_line, cut, line}
+use Rattle.wb_base.proofs.LineLemmas.{cut-cons}
 
 -- ---- The first line ----
-
--- a byte that is no LF goes in front
-cut-cons : (b : ℕ) (bytes : List ℕ) → b ≢ 10 → cut (b ∷ bytes) ≡ onto_line b (cut bytes)
-cut-cons b bytes other = rw (ne_eqb b 10 other) refl
 
 -- the first line ends at the first LF
 pub cut-found
@@ -67,6 +63,6 @@ cut-is (b ∷ bytes) = go (eqb b 10) refl (cut bytes) (cut-is bytes)
         → eqb b 10 ≡ lf
         → (parts : List (List ℕ) × List ℕ)
         → joined parts ≡ bytes
-        → joined (cond lf (empty_line parts) (onto_line b parts)) ≡ b ∷ bytes
+        → joined (cond lf ([] ∷ parts.0, parts.1) (onto_line b parts)) ≡ b ∷ bytes
     go true test (ls, rest) is = rw (eqb-true b 10 test) (ap (λ z. 10 ∷ z) is)
     go false test parts is = onto parts ∙ ap (λ z. b ∷ z) is

@@ -1,9 +1,10 @@
 -- Laws of what is due after one line, for the code that keeps it.
-use Rattle.std.proofs.Common.{◌≡◌, ℕ, ◌-◌, ◌<◌, ◌≤◌, ◌^◌, min, Bool, true, false, ltb, inl, inr, List, length, Option, Some, None, Ok, Err, refl, sym, ◌∙◌, ap, ap₂, ◌==◌, subst, arith}
+use Rattle.std.proofs.Common.{◌≡◌, ℕ, ◌-◌, ◌<◌, ◌≤◌, ◌^◌, min, true, false, ltb, inl, inr, List, length, Option, Some, None, Ok, Err, refl, sym, ◌∙◌, ap, ap₂, ◌==◌, subst, arith}
 use Rattle.std.proofs.lemmas.Bool.{lt-ltb, le-ltb, ltb-true, eq-eqb, eqb-true, cases_Bool, and_parts, and_from}
 use Rattle.std.specs.Bool.{Decides}
 use Rattle.std.specs.Cmp.{booleans_Decides}
 use Rattle.std.proofs.lemmas.Slice.Eq.{slice_eq-Decides}
+use Rattle.std.proofs.lemmas.Bool.Decides.{same_from_decides}
 use Rattle.braid_word.specs.Words.{Letter, letter}
 use Rattle.braid_word.specs.Sign.{sign_of}
 use Rattle.braid_word.specs.declared.TheConstants.{MAX_LETTERS}
@@ -19,13 +20,6 @@ use Rattle.trace_check.specs.declared.due.Due.TheVariants as due
 use Rattle.trace_check.specs.declared.replay.Replay.{Replay}
 
 -- ---- Tests ----
-
--- what passes a test isn't what a failed one says
-decided : {P : Type 0} (test other : Bool) → Decides test P → Decides other P → test ≡ other
-decided true true one two = refl
-decided true false one two = absurd (let false_one : false ≡ true = two.1 (one.0 refl) in cc)
-decided false true one two = absurd (let false_one : false ≡ true = one.1 (two.0 refl) in cc)
-decided false false one two = refl
 
 -- the test of two letters
 pub Decides-letter_eq : (x y : Letter) → Decides (letter_eq x y) (x ≡ y)
@@ -153,7 +147,7 @@ module _
         let other : Decides false (w ≡ replay.present)
         = subst (λ z. Decides false (z ≡ replay.present)) is
         (subst (λ z. Decides false (u ≡ z)) at other) in
-        let test = decided _ false (Decides-word_eq w replay.present) other in
+        let test = same_from_decides _ false (Decides-word_eq w replay.present) other in
         rw test refl
 
     -- the present word
@@ -170,7 +164,7 @@ module _
     shown-Sign t whole same other =
         let other : Decides false (verdict_of (sign_of w) ≡ Some verdict)
         = subst (λ z. Decides false (verdict_of (sign_of z) ≡ Some verdict)) whole other in
-        let sign = decided _ false (Decides-gives_verdict (verdict_of (sign_of w)) verdict) other in
+        let sign = same_from_decides _ false (Decides-gives_verdict (verdict_of (sign_of w)) verdict) other in
         rw (same_words same, sign) refl
 
     -- with the verdict's sign

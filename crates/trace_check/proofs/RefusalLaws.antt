@@ -5,9 +5,9 @@
 -- where it is accepted (`HasNoRefusal-accepted`).
 use Rattle.std.proofs.Common.{◌≡◌, ◌↔◌, ℕ, ◌+◌, ◌-◌, ◌^◌, ◌≤◌, min, List, [], ◌∷◌, ◌++◌, length, Result, Ok, Err, refl, sym, ap, ◌∙◌, subst, arith}
 use Rattle.wb_base.specs.Streams.{one_more}
+use Rattle.wb_base.specs.Lines.{cut}
 use Rattle.trace_format.specs.TraceText.{Trace}
 use Rattle.trace_check.specs.Accepted.{IsAccepted, Claim}
-use Rattle.trace_check.specs.Cutting.{cut}
 use Rattle.trace_check.specs.Checking.{kept, at_end, at_line, walk_on, walk, checked_of, Gives}
 use Rattle.trace_check.specs.FirstRefusal.{AreKept, IsRefused, IsFirstRefusal, HasNoRefusal, IfRefused}
 use Rattle.trace_check.specs.declared.checked.CheckErr.{CheckErr}

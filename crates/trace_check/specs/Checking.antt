@@ -18,6 +18,7 @@ use Rattle.std.specs.Bool.{beq}
 use Rattle.std.specs.Cmp.Lexicographic.{pointwise}
 use Rattle.std.specs.Str.{bytes_eq}
 use Rattle.wb_base.specs.Streams.{one_more}
+use Rattle.wb_base.specs.Lines.{cut}
 use Rattle.braid_word.specs.Words.{Letter, opposite, quotient}
 use Rattle.braid_word.specs.Sign.{sign_of}
 use Rattle.braid_word.specs.declared.TheConstants.{MAX_LETTERS}
@@ -36,7 +37,6 @@ use Rattle.trace_format.specs.declared.line.LineErr.TheVariants as line_errors
 use Rattle.trace_format.specs.Verdicts.{verdict_of}
 use Rattle.trace_format.specs.TraceLines.{kind_of, line_of}
 use Rattle.trace_check.specs.Accepted.{Claim}
-use Rattle.trace_check.specs.Cutting.{cut}
 use Rattle.trace_check.specs.declared.TheConstants.{MAX_LINE}
 use Rattle.trace_check.specs.declared.checked.Why.{Why}
 use Rattle.trace_check.specs.declared.checked.Why.TheVariants.{Form, Header, Step, Long, Witness, Sign, Truncated, Extra}

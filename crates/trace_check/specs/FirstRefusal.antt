@@ -14,8 +14,8 @@
 -- It is what `checked_of` says: `IsFirstRefusal-checked_of` and `checked_of-IsFirstRefusal` in
 -- `proofs/RefusalLaws.antt`.
 use Rattle.std.specs.Prelude.{◌≡◌, ℕ, ◌+◌, ◌-◌, ◌^◌, min, List, [], ◌∷◌, ◌++◌, length, Result, Ok, Err}
+use Rattle.wb_base.specs.Lines.{cut}
 use Rattle.trace_check.specs.Accepted.{Claim}
-use Rattle.trace_check.specs.Cutting.{cut}
 use Rattle.trace_check.specs.Checking.{kept, at_end}
 use Rattle.trace_check.specs.declared.checked.Why.{Why}
 use Rattle.trace_check.specs.declared.checked.CheckErr.{CheckErr}

@@ -1,8 +1,8 @@
 ghost use Rattle.std.specs.Prelude.{◌≡◌, ◌↔◌, ℕ, [], ◌∷◌, Ok, Err, MatchOption, IfOk};
+ghost use Rattle.wb_base.specs.Lines.{cut};
 ghost use Rattle.trace_format.specs.TraceText.{Trace};
 ghost use Rattle.trace_check.specs.Accepted.{IsAccepted, claim_of, IsValid};
-ghost use Rattle.trace_check.specs.Cutting.{cut};
-ghost use Rattle.trace_check.specs.Checking.{at_end, at_line, checked_of, walk, Gives};
+ghost use Rattle.trace_check.specs.Checking.{at_end, at_line, checked_of, Gives};
 ghost use Rattle.trace_check.specs.FirstRefusal.{IsFirstRefusal, HasNoRefusal, IfRefused};
 ghost use Rattle.trace_check.specs.declared.checked.Why.{Why as Cause};
 

@@ -252,13 +252,9 @@ fn keep_finish(replay: Replay, verdict: Verdict, line: &[u8]) -> Result<Due, Sto
 pub fn keep(alloc: Global, due: Due, line: &[u8]) -> Result<Due, Stop>
     ensures { Keeps result (kept due line.now) }
 {
-    if let Due::Passed(_) = due {
-        return Err(Stop::Refused(Why::Extra));
-    }
-    if line.len() > MAX_LINE {
-        return Err(Stop::Refused(Why::Long));
-    }
     match due {
+        Due::Passed(_) => Err(Stop::Refused(Why::Extra)),
+        _ if line.len() > MAX_LINE => Err(Stop::Refused(Why::Long)),
         Due::Start => keep_start(line),
         Due::Left => keep_left(alloc, line),
         Due::Right(left) => keep_right(alloc, left, line),
@@ -266,6 +262,5 @@ pub fn keep(alloc: Global, due: Due, line: &[u8]) -> Result<Due, Stop>
         Due::Step(replay) => keep_step(alloc, replay, line),
         Due::Witness(replay, verdict) => keep_witness(alloc, replay, verdict, line),
         Due::Finish(replay, verdict) => keep_finish(replay, verdict, line),
-        Due::Passed(_) => Err(Stop::Refused(Why::Extra)),
     }
 }

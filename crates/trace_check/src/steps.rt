@@ -2,7 +2,7 @@
 ghost use Rattle.std.specs.Prelude.{◌≡◌, ◌-◌, ◌++◌, take, drop};
 ghost use Rattle.trace_format.specs.TraceLines.{IsPlace, IsStepLine};
 ghost use Rattle.trace_format.specs.declared.line.StepLine.TheVariants.{Handle, Commute, Swap, Delete, Insert};
-ghost use Rattle.trace_check.specs.Checking.{are_far, are_near, have_one_sign, are_braided, are_inverse, stepped_to, stepped};
+ghost use Rattle.trace_check.specs.Checking.{are_far, are_near, are_braided, are_inverse, stepped_to, stepped};
 ghost use Rattle.trace_check.specs.Keeping.{StepsTo};
 
 use crate::checked::Why;

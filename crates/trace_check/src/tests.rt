@@ -1,4 +1,4 @@
-use crate::{CheckErr, MAX_LINE, Why, check};
+use crate::{CheckErr, MAX_LINE, check};
 use braid_word::{MAX_LETTERS, read_strict_word};
 use std::alloc::Global;
 use std::test::Fail;

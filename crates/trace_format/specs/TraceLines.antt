@@ -206,12 +206,12 @@ Fails Unknown read = read ≡ Err Unknown
 Fails Form read = read ≡ Err Form
 Fails Long read = read ≡ Err Long
 
--- What a reader answered is what is read, unless memory ran out.
+-- What a reader answered is what is read, unless memory ran out. No public clause cites it.
 abbrev pub Gives : {X : Type 0} → Result X LineErr → Result X LineErr → Type 0
 Gives (Ok x) read = read ≡ Ok x
 Gives (Err e) read = Fails e read
 
--- The same of a term, which a reader gives as a tree.
+-- The same of a term, which a reader gives as a tree. No public clause cites it.
 abbrev pub ReadsTerm : Result Tree LineErr → Result Term LineErr → Type 0
 ReadsTerm (Ok tree) read = read ≡ Ok (as_term (written tree))
 ReadsTerm (Err e) read = Fails e read

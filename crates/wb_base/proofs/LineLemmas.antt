@@ -4,8 +4,8 @@
 -- lines than bytes (`length-lines_of`).
 use Rattle.std.proofs.Common.{◌≡◌, ◌≢◌, ℕ, suc, zero, ◌+◌, ◌<◌, ◌≤◌, Bool, true, false, cond, nat_eq, List, [], ◌∷◌, ◌++◌, length, get_or, take, drop, ap, refl, ◌∙◌, arith}
 use Rattle.std.specs.List.{AllByRecursion, flat_map, onto_first}
-use Rattle.std.proofs.lemmas.Bool.{ne_eqb}
-use Rattle.wb_base.specs.Lines.{lines_of, line}
+use Rattle.std.proofs.lemmas.Bool.{eq-eqb, ne_eqb}
+use Rattle.wb_base.specs.Lines.{lines_of, onto_line, cut, line}
 
 -- a byte that is no LF goes in front of the first line
 pub lines_of-cons : (b : ℕ) (bytes : List ℕ) → b ≢ 10 → lines_of (b ∷ bytes) ≡ onto_first b (lines_of bytes)
@@ -33,6 +33,16 @@ lines_of-last [] some none = absurd (omega arith)
 lines_of-last (b ∷ []) some none = lines_of-cons b [] (none 0 (omega arith))
 lines_of-last (b ∷ c ∷ bytes) some none =
     lines_of-cons b (c ∷ bytes) (none 0 (omega arith)) ∙ ap (onto_first b) (lines_of-last (c ∷ bytes) (omega arith) (λ k below. none (suc k) (omega arith)))
+
+-- ---- Whole lines ----
+
+-- an LF ends a whole line
+pub cut-lf : (b : ℕ) (bytes : List ℕ) → b ≡ 10 → cut (b ∷ bytes) ≡ ([] ∷ (cut bytes).0, (cut bytes).1)
+cut-lf b bytes is = rw (eq-eqb b 10 is) refl
+
+-- a byte that is no LF goes in front
+pub cut-cons : (b : ℕ) (bytes : List ℕ) → b ≢ 10 → cut (b ∷ bytes) ≡ onto_line b (cut bytes)
+cut-cons b bytes other = rw (ne_eqb b 10 other) refl
 
 -- ---- Texts as lines ----
 

@@ -4,11 +4,12 @@
 --
 -- Source: this project's own.
 --
---   digits_in_front bytes    the longest run of digits that the bytes begin with
---   is_canonical run         whether a run of digits is the text of a number
---   number_at bytes          the number that the bytes begin with, and the length of its text
---   spaced_number n          the text of n, behind a space
---   signed_text negative n   the text of n, behind a minus sign where it is negative
+--   digits_in_front bytes         the longest run of digits that the bytes begin with
+--   is_canonical run              whether a run of digits is the text of a number
+--   number_at bytes               the number that the bytes begin with, and the length of its text
+--   number_within low high text   the number that a whole text is, within these bounds
+--   spaced_number n               the text of n, behind a space
+--   signed_text negative n        the text of n, behind a minus sign where it is negative
 use Rattle.std.specs.Prelude.{ℕ, ◌^◌, ◌&&◌, ◌==◌, Bool, true, false, not, nat_lt, if◌then◌else◌, List, [], ◌∷◌, ◌++◌, length, decimal, take_while, Option, Some, None}
 use Rattle.std.specs.Char.{is_ascii_digit}
 use Rattle.std.specs.Str.Parse.{digits_value}
@@ -34,6 +35,16 @@ spaced_number n = 32 ∷ decimal n
 -- The number in front and how many digits it has: of `102 7` they are 102 and 3, and `01` has none.
 abbrev pub number_at : List ℕ → Option (ℕ × ℕ)
 number_at bytes = number_of (digits_in_front bytes)
+
+-- A number that takes all bytes of a text, and is within these bounds.
+abbrev pub whole_number : ℕ → ℕ → ℕ → Option (ℕ × ℕ) → Option ℕ
+whole_number low high size None = None
+whole_number low high size (Some (value, digits)) =
+    if (digits == size) && not (nat_lt value low) && not (nat_lt high value) then Some value else None
+
+-- The number that a text is: from 1 to 64 it is one for `64`, and none for `01`, `0`, `65` and `1x`.
+abbrev pub number_within : ℕ → ℕ → List ℕ → Option ℕ
+number_within low high text = whole_number low high (length text) (number_at text)
 
 -- A minus sign, for a negative number.
 abbrev pub sign_text : Bool → List ℕ

@@ -1,7 +1,7 @@
 -- What the sources and sinks of this crate are seen as.
 --
 -- Source: this project's own.
-use Rattle.std.specs.Prelude.{ℕ, ◌<◌, ◌≤◌, ◌==◌, Bool, List, length, Option}
+use Rattle.std.specs.Prelude.{ℕ, ◌<◌, ◌≤◌, ◌==◌, Bool, if◌then◌else◌, List, length, Option}
 use Rattle.std.specs.List.{list_any}
 
 -- A source in memory: the bytes left, the most that one call gives, the numbers of the calls that fail,
@@ -38,16 +38,23 @@ IsFull sink bytes = (0 < length bytes) × (sink.room ≤ length sink.taken)
 abbrev pub is_listed : List ℕ → ℕ → Bool
 is_listed numbers n = list_any (λ m. m == n) numbers
 
--- A source over a reader: the bytes left, where the reader tells them, and how many calls and faults
+-- A source over a reader: the bytes left, where the reader tells them, and how many reads and faults
 -- there were.
 pub record ReaderState : Type 0 where
   pub left : Option (List ℕ)
-  pub calls : ℕ
+  pub reads : ℕ
   pub faults : ℕ
 
 -- A sink over a writer: the bytes that the writer holds and those that wait behind them, where the
--- writer tells its own; how many wait, and how many faults there were.
+-- writer tells its own; how many wait, whether the writer was flushed and has not been written to since, and
+-- how many faults there were.
 pub record WriterState : Type 0 where
   pub taken : Option (List ℕ)
   pub waiting : ℕ
+  pub flushed : Bool
   pub faults : ℕ
+
+-- How many bytes wait in a sink over a writer when it takes the next ones: none where its 8,192 places were
+-- full, since these are written out first.
+abbrev pub waiting_before : ℕ → ℕ
+waiting_before waiting = if waiting == 8192 then 0 else waiting

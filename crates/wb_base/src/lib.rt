@@ -1,6 +1,7 @@
 //! Streams of bytes, decimal numbers, lines, names, the program's status, and a count of steps.
 #![tactic(auto)]
 
+mod edge;
 mod line_iter;
 mod memory;
 mod name;
@@ -15,7 +16,7 @@ mod whole;
 pub use line_iter::{LineIter, count_lines, lines};
 pub use memory::{MemSink, MemSource, SureSource};
 pub use name::Name;
-pub use number::{is_canonical, put_number, put_signed, read_number};
+pub use number::{is_canonical, put_number, put_signed, read_number, read_within};
 pub use standard::{StdSink, StdSource};
 pub use status::Status;
 pub use steps::Steps;

@@ -1,5 +1,5 @@
-ghost use Rattle.std.specs.Prelude.{◌≡◌, ◌≢◌, ℕ, ◌+◌, ◌-◌, ◌<◌, ◌≤◌, ◌↔◌, min, List, [], length, take, drop, Option, Some, IfOk, IfErr, OnOk, OnErr, IsOk, IsErr, IsTrue, MatchResult, IsOkAnd, ◌⊎◌, ◌++◌};
-ghost use Rattle.wb_base.specs.Streams.{HasCause, TakesFront, GivesFront, WaitsAtMost, Puts, one_more};
+ghost use Rattle.std.specs.Prelude.{◌≡◌, ◌+◌, ◌-◌, ◌<◌, ◌≤◌, ◌↔◌, min, [], length, take, drop, Some, IfOk, OnOk, IsErr, IsTrue, MatchResult, IsOkAnd, ◌⊎◌, ◌++◌};
+ghost use Rattle.wb_base.specs.Streams.{HasCause, TakesFront, GivesFront, WaitsAtMost, one_more};
 ghost use Rattle.wb_base.specs.StreamStates.{is_listed, IsFull};
 
 use crate::stream::{Failed, Sink, Source};

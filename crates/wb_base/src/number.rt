@@ -1,7 +1,7 @@
-ghost use Rattle.std.specs.Prelude.{◌≡◌, ◌+◌, ◌^◌, ◌<◌, ◌≤◌, decimal, length, SomeIff};
+ghost use Rattle.std.specs.Prelude.{◌≡◌, ◌+◌, ◌^◌, ◌<◌, ◌≤◌, decimal, length, IfSome, SomeIff};
 ghost use Rattle.std.specs.Str.Parse.{digits_value, AllDigits};
 ghost use Rattle.wb_base.specs.Streams.{HasCause, Puts};
-ghost use Rattle.wb_base.specs.Numbers.{digits_in_front, is_canonical, number_at, sign_text, signed_text};
+ghost use Rattle.wb_base.specs.Numbers.{digits_in_front, is_canonical, number_at, number_within, sign_text, signed_text};
 
 use crate::stream::{Failed, Sink, give_all};
 use itoa::Buffer;
@@ -56,6 +56,20 @@ pub fn read_number(bytes: &[u8]) -> Option<(u64, usize)>
         return None;
     }
     Some((value_of(digits)?, digits.len()))
+}
+
+/// The number that a whole text is, if it is within these bounds.
+pub fn read_within(text: &[u8], low: u32, high: u32) -> Option<u32>
+    ensures number { result ≡ number_within low high text.now }
+    ensures low { IfSome result (λ n. low ≤ n) }
+    ensures high { IfSome result (λ n. n ≤ high) }
+{
+    let (value, digits) = read_number(text)?;
+    if digits == text.len() && value >= u64::from(low) && value <= u64::from(high) {
+        Some(value as u32)
+    } else {
+        None
+    }
 }
 
 /// Gives the decimal text of a number.

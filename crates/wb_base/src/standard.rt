@@ -1,11 +1,13 @@
 // Sources and sinks over std's readers and writers.
 //
 // A reader may tell the bytes that it has left, and a writer those that it holds. Standard input and
-// output tell none: what they give and take is known to no proof, and there is the program's edge.
-ghost use Rattle.std.specs.Prelude.{◌≡◌, ℕ, ◌+◌, ◌-◌, ◌≤◌, ◌<◌, min, None, IfOk, OnOk, OnErr, IsErr, length, take, ◌++◌};
+// output tell none: what they give and take is known to no proof. Their calls are made in `edge.rt`.
+ghost use Rattle.std.specs.Prelude.{◌≡◌, ◌+◌, ◌-◌, ◌≤◌, ◌<◌, min, true, false, None, IfOk, OnOk, IsErr, length, take, ◌++◌};
 ghost use Rattle.std.specs.Io.KnownBytes.{Keeps, Appends, ReadConsumes, WriteAppends};
-ghost use Rattle.wb_base.specs.Streams.{HasCause, TakesFront, GivesFront, WaitsAtMost, Rose, one_more, CountsErrors};
+ghost use Rattle.wb_base.specs.Streams.{HasCause, TakesFront, GivesFront, WaitsAtMost, one_more, CountsErrors};
+ghost use Rattle.wb_base.specs.StreamStates.{waiting_before};
 
+use crate::edge::{CountedReader, CountedWriter};
 use crate::stream::{Failed, Sink, Source};
 use std::io::{Read, Write};
 use std::marker::Model;
@@ -15,12 +17,11 @@ const CAPACITY: usize = 8192;
 
 /// A source over a reader. It tells no bytes to code that is generic over sources.
 ///
-/// Each error of the reader is a fault.
+/// Each `take` reads once, into the bytes that it is given. Each error of the reader is a fault, also that a
+/// read was interrupted; the call can be made again.
 #[derive(Drop)]
 pub struct StdSource<R: Read + Drop> {
-    reader: R,
-    calls: u64,
-    faults: u64,
+    reader: CountedReader<R>,
 }
 
 impl<R: Read + Drop> Model for StdSource<R> {
@@ -28,18 +29,20 @@ impl<R: Read + Drop> Model for StdSource<R> {
 
     ghost Value = { ReaderState };
 
-    ghost view = { λ s. record { left = R.remaining s.reader; calls = s.calls; faults = s.faults } };
+    ghost view = { λ s. record {
+      left = R.remaining s.reader.reader;
+      reads = s.reader.reads;
+      faults = s.reader.errors;
+    } };
 }
 
 impl<R: Read + Drop> StdSource<R> {
     /// A source of what the reader gives.
     pub fn new(reader: R) -> StdSource<R>
-        ensures { result ≡ record { left = R.remaining reader; calls = 0; faults = 0 } }
+        ensures { result ≡ record { left = R.remaining reader; reads = 0; faults = 0 } }
     {
         StdSource {
-            reader,
-            calls: 0,
-            faults: 0,
+            reader: CountedReader::new(reader),
         }
     }
 }
@@ -49,40 +52,33 @@ impl<R: Read + Drop> Source for StdSource<R> {
 
     ghost faults = { λ s. s.faults };
 
-    ghost calls = { λ s. s.calls };
+    ghost calls = { λ s. s.reads };
 
     fn take(&mut self, into: &mut [u8]) -> Result<usize, Failed>
         ensures within { IfOk result (λ n. n ≤ length into.new) }
         ensures bytes { TakesFront None None result into.new }
         ensures cause { HasCause self.old.faults self.new.faults result }
-        ensures counted { self.new.calls ≡ one_more self.old.calls }
+        ensures counted { self.new.reads ≡ one_more self.old.reads }
 
         // The reader's bytes, where it tells them, and each error counts.
         ensures read { ReadConsumes self.old.left self.new.left result into.new }
         ensures errors { CountsErrors self.old.faults self.new.faults result }
     {
-        self.calls = self.calls.saturating_add(1);
-        match self.reader.read(into) {
-            Ok(n) => Ok(n),
-            Err(_) => {
-                self.faults = self.faults.saturating_add(1);
-                Err(Failed)
-            }
-        }
+        self.reader.read(into)
     }
 }
 
 /// A sink over a writer. It tells no bytes to code that is generic over sinks.
 ///
-/// It collects up to 8,192 bytes, in which they wait, and writes them out when there is no room for more
-/// and in `done`. Each error of the writer is a fault, and so is a write of no bytes. Bytes that wait when
-/// it is dropped are lost.
+/// It collects up to 8,192 bytes, which wait. It writes them out at the first `give` of bytes that finds no room,
+/// and in `done`, which flushes the writer too. Each error of the writer is a fault, and so is a write of no
+/// bytes; what wasn't written still waits then, and the call can be made again. Bytes that wait when it is
+/// dropped are lost.
 #[derive(Drop)]
 pub struct StdSink<W: Write + Drop> {
-    writer: W,
+    writer: CountedWriter<W>,
     buffer: [u8; CAPACITY],
     len: usize,
-    faults: u64,
 }
 
 impl<W: Write + Drop> Model for StdSink<W> {
@@ -93,37 +89,29 @@ impl<W: Write + Drop> Model for StdSink<W> {
     ghost Value = { WriterState };
 
     ghost view = { λ s. record {
-      taken = append_known (W.contents s.writer) (take s.len s.buffer);
+      taken = append_known (W.contents s.writer.writer) (take s.len s.buffer);
       waiting = s.len;
-      faults = s.faults;
+      flushed = s.writer.flushed;
+      faults = s.writer.errors;
     } };
 
     ghost invariant = { λ s. s.len ≤ 8192 };
 }
 
-// Writes a front of some bytes, and answers its length: 0 at an error.
-fn write_some<W: Write>(writer: &mut W, bytes: &[u8]) -> usize
-    ensures within { result ≤ length bytes.now }
-    ensures written { Appends (W.contents writer.old) (W.contents writer.new) (take result bytes.now) }
-{
-    match writer.write(bytes) {
-        Ok(n) => n,
-        Err(_) => 0,
-    }
-}
-
 // Writes out the first `len` bytes of a buffer, and answers how many it wrote before an error.
-fn write_out<W: Write>(writer: &mut W, buffer: &[u8], len: usize) -> usize
+fn write_out<W: Write + Drop>(writer: &mut CountedWriter<W>, buffer: &[u8], len: usize) -> usize
     requires { len ≤ length buffer.now }
     ensures within { result ≤ len }
-    ensures written { Appends (W.contents writer.old) (W.contents writer.new) (take result buffer.now) }
+    ensures written { Appends (W.contents writer.old.writer) (W.contents writer.new.writer) (take result buffer.now) }
+    ensures whole { result ≡ len → writer.new.errors ≡ writer.old.errors }
+    ensures error { result < len → writer.new.errors ≡ one_more writer.old.errors }
+    ensures later { writer.old.errors ≤ writer.new.errors }
 {
     let mut written = 0;
     while written < len {
-        let n = write_some(writer, &buffer[written..len]);
-        if n == 0 {
+        let Ok(n) = writer.write(&buffer[written..len]) else {
             return written;
-        }
+        };
         written += n;
     }
     written
@@ -143,13 +131,12 @@ fn fill(buffer: &mut [u8], at: usize, bytes: &[u8]) -> usize
 impl<W: Write + Drop> StdSink<W> {
     /// A sink that passes bytes on to the writer.
     pub fn new(writer: W) -> StdSink<W>
-        ensures { result ≡ record { taken = W.contents writer; waiting = 0; faults = 0 } }
+        ensures { result ≡ record { taken = W.contents writer; waiting = 0; flushed = false; faults = 0 } }
     {
         StdSink {
-            writer,
+            writer: CountedWriter::new(writer),
             buffer: [0; CAPACITY],
             len: 0,
-            faults: 0,
         }
     }
 
@@ -166,7 +153,6 @@ impl<W: Write + Drop> StdSink<W> {
         self.buffer.copy_within(written..self.len, 0);
         self.len = left;
         if left > 0 {
-            self.faults = self.faults.saturating_add(1);
             return Err(Failed);
         }
         Ok(())
@@ -175,6 +161,7 @@ impl<W: Write + Drop> StdSink<W> {
     // Writes out the bytes that wait where there is no room for more.
     fn make_room(&mut self) -> Result<(), Failed>
         ensures full { IsErr result → self.old.waiting ≡ 8192 }
+        ensures made { OnOk result (self.new.waiting ≡ waiting_before self.old.waiting) }
         ensures room { OnOk result (self.new.waiting < 8192) }
         ensures waits { self.new.waiting ≤ self.old.waiting }
         ensures cause { HasCause self.old.faults self.new.faults result }
@@ -213,9 +200,11 @@ impl<W: Write + Drop> Sink for StdSink<W> {
         ensures waits { WaitsAtMost self.old.waiting self.new.waiting result }
         ensures cause { HasCause self.old.faults self.new.faults result }
 
-        // It fails only where no room is left. No byte is lost, where the writer tells those that it
-        // holds, and each error counts.
-        ensures full { IsErr result → self.old.waiting ≡ 8192 }
+        // It takes as many bytes as have room, and these wait. It fails only where no room was left for a byte.
+        // No byte is lost, where the writer tells those that it holds, and each error counts.
+        ensures takes { IfOk result (λ n. n ≡ min (8192 - waiting_before self.old.waiting) (length bytes.now)) }
+        ensures collects { 0 < length bytes.now → IfOk result (λ n. self.new.waiting ≡ waiting_before self.old.waiting + n) }
+        ensures full { IsErr result → (self.old.waiting ≡ 8192) × (0 < length bytes.now) }
         ensures written { WriteAppends self.old.taken self.new.taken result bytes.now }
         ensures errors { CountsErrors self.old.faults self.new.faults result }
     {
@@ -231,15 +220,12 @@ impl<W: Write + Drop> Sink for StdSink<W> {
         ensures waits { self.new.waiting ≤ self.old.waiting }
         ensures cause { HasCause self.old.faults self.new.faults result }
 
-        // No byte is lost, where the writer tells those that it holds, and each error counts.
-        ensures written { Keeps self.old.taken self.new.taken }
+        // The writer is flushed. No byte is lost, where it tells those that it holds, and each error counts.
+        ensures flushed { OnOk result (self.new.flushed ≡ true) }
+        ensures none_lost { Keeps self.old.taken self.new.taken }
         ensures errors { CountsErrors self.old.faults self.new.faults result }
     {
         self.pass_on()?;
-        if self.writer.flush().is_err() {
-            self.faults = self.faults.saturating_add(1);
-            return Err(Failed);
-        }
-        Ok(())
+        self.writer.flush()
     }
 }

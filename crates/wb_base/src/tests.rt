@@ -3,7 +3,7 @@ ghost use Rattle.std.specs.Prelude.{◌≡◌, ◌<◌, ◌↔◌, IsTrue};
 
 use crate::{
     MemSink, MemSource, Name, ReadErr, Sink, Status, StdSink, StdSource, Steps, SureSource,
-    count_lines, give_all, is_canonical, lines, put_number, read_all, read_number,
+    count_lines, give_all, is_canonical, lines, put_number, read_all, read_number, read_within,
 };
 use std::alloc::{AllocError, Global};
 use std::io::{Error, ErrorKind, Read, Result as IoResult, Write};
@@ -28,6 +28,17 @@ fn a_number_is_read_from_the_front(rt: HostRuntime) {
         assert_eq!(rt; read_number(bytes), want, "at {bytes:?}");
     }
     assert!(rt; is_canonical(b"10") && !is_canonical(b"01"));
+    let whole: [(&[u8], Option<u32>); 6] = [
+        (b"1", Some(1)),
+        (b"64", Some(64)),
+        (b"0", None),
+        (b"65", None),
+        (b"01", None),
+        (b"1x", None),
+    ];
+    for (text, want) in whole {
+        assert_eq!(rt; read_within(text, 1, 64), want, "the text {text:?}");
+    }
 }
 
 #[test]
@@ -165,21 +176,6 @@ fn many_bytes(alloc: Global) -> Result<Vec<u8>, AllocError> {
     Ok(bytes)
 }
 
-#[test]
-fn bytes_pass_through_the_adapters(rt: HostRuntime) -> Result<(), Fail> {
-    let bytes = many_bytes(rt.alloc())?;
-    let mut source = StdSource::new(bytes.as_slice());
-    let read = read_all(rt.alloc(), &mut source, 20_000)?;
-    let mut written = Vec::new(rt.alloc());
-    {
-        let mut sink = StdSink::new(&mut written);
-        give_all(&mut sink, &read)?;
-        sink.done()?;
-    }
-    assert!(rt; written == bytes);
-    Ok(())
-}
-
 // A reader and a writer whose calls fail by their number.
 #[derive(Drop)]
 struct Unsteady<T> {
@@ -215,6 +211,29 @@ impl Write for Unsteady<Vec<u8>> {
             _ => Ok(()),
         }
     }
+}
+
+#[test]
+fn bytes_pass_through_the_adapters_in_few_calls(rt: HostRuntime) -> Result<(), Fail> {
+    let bytes = many_bytes(rt.alloc())?;
+    let mut source = StdSource::new(bytes.as_slice());
+    let read = read_all(rt.alloc(), &mut source, 20_000)?;
+    let mut writer = Unsteady {
+        inner: Vec::new(rt.alloc()),
+        calls: 10,
+    };
+    {
+        let mut sink = StdSink::new(&mut writer);
+        give_all(&mut sink, &read)?;
+        sink.done()?;
+    }
+    assert!(rt; writer.inner == bytes);
+    assert_eq!(rt;
+        writer.calls,
+        14,
+        "three writes and a flush, behind the calls that fail"
+    );
+    Ok(())
 }
 
 #[test]

@@ -1,4 +1,4 @@
-ghost use Rattle.std.specs.Prelude.{◌≡◌, ◌+◌, ◌≤◌, ◌++◌, decimal, length};
+ghost use Rattle.std.specs.Prelude.{◌+◌, ◌≤◌, ◌++◌, decimal, length};
 ghost use Rattle.wb_base.specs.Lines.{line};
 ghost use Rattle.wb_base.specs.Streams.{HasCause, Puts};
 

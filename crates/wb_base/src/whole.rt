@@ -1,5 +1,5 @@
-ghost use Rattle.std.specs.Prelude.{◌≡◌, ◌+◌, ◌≤◌, IfOk, IfErr, length, vec_len, IsErrOf};
-ghost use Rattle.wb_base.specs.Streams.{HasCause, ReadsAll, Rose};
+ghost use Rattle.std.specs.Prelude.{◌≡◌, ◌+◌, ◌≤◌, IfOk, IfErr, length};
+ghost use Rattle.wb_base.specs.Streams.{ReadsAll, Rose};
 ghost use Rattle.wb_base.specs.declared.TheConstants.{MAX_WHOLE};
 ghost use Rattle.wb_base.specs.Reading.{Refuses};
 ghost use Rattle.wb_base.specs.declared.whole.ReadErr.TheVariants.{Fault, Memory};

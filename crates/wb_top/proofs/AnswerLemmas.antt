@@ -32,11 +32,12 @@ use Rattle.garside_form.specs.NormalText.{normal_text}
 use Rattle.garside_form.proofs.NormalLemmas.{form_only}
 use Rattle.trace_format.specs.Verdicts.{verdict_of}
 use Rattle.wb_top.specs.Commands.{command_of, reads_input, reads_first, IsBounded}
-use Rattle.wb_top.specs.Answer.{Answer, answer, usage, limit_met, Told, IsTold, told_nothing, told_answer}
+use Rattle.wb_top.specs.Answer.{usage, limit_met, Told, IsTold, told_nothing, told_answer}
 use Rattle.wb_top.specs.Reductions.{ended, run_answer}
 use Rattle.wb_top.specs.TermAnswers.{file_refused, IsOnTerm, on_refusal, on_term, evaluated, valued, AreCompared, terms_refused, terms_read}
 use Rattle.wb_top.specs.ExpansionAnswers.{expanded_at, derived_in}
 use Rattle.wb_base.specs.Lines.{lines_of}
+use Rattle.wb_base.specs.Status.{Answer, answer}
 use Rattle.ld_term.specs.Terms.{Term}
 use Rattle.term_graph.specs.TermLists.{term_at}
 use Rattle.term_graph.proofs.FileLemmas.{IsFileRefusal-unique, IsFileRefusal-file, IsTermFile-terms, IsTermFile-made}

@@ -4,13 +4,9 @@ use Rattle.braid_word.specs.Words.{letter}
 use Rattle.braid_word.specs.Notation.{word_of, number_word_of}
 use Rattle.wb_top.specs.declared.command.Command.TheVariants.{Act, Row}
 use Rattle.wb_top.specs.declared.input.Fault.TheVariants.{Lines, Strands}
-use Rattle.wb_top.specs.Commands.{number_of, address_of, command_of}
+use Rattle.wb_top.specs.Commands.{address_of, command_of}
 use Rattle.wb_top.specs.Inputs.{one_word, two_words}
 use Rattle.wb_top.specs.Bench.{made_word, state_behind}
-
--- a number is within its bounds, has no leading zero, and is the whole word
-number_row : number_of 1 64 (codes "64") ∷ (number_of 1 64 (codes "65") ∷ (number_of 0 64 (codes "01") ∷ [])) ≡ Some 64 ∷ (None ∷ (None ∷ []))
-number_row = refl
 
 -- a dot alone is the address of the whole term, and no side is `2`
 address_row : address_of (codes ".") ∷ (address_of (codes ".2") ∷ []) ≡ Some [] ∷ (None ∷ [])

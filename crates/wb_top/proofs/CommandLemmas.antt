@@ -7,7 +7,7 @@ use Rattle.std.specs.Str.{bytes_eq}
 use Rattle.std.proofs.lemmas.Bool.{cond_both, and_parts, and_from, eqb-true, le-ltb, ltb-false}
 use Rattle.std.specs.List.{list_all, AllByRecursion}
 use Rattle.std.proofs.lemmas.List.Elements.{All-nil, All-cons, recursion_from_All}
-use Rattle.wb_base.specs.Numbers.{number_at}
+use Rattle.wb_base.specs.Numbers.{number_at, whole_number, number_within}
 use Rattle.handle_reduce.specs.declared.TheConstants.{MAX_BOUND}
 use Rattle.laver_table.specs.declared.TheConstants.{MAX_EXPONENT}
 use Rattle.term_expand.specs.Expansions.{IsAddress}
@@ -15,7 +15,7 @@ use Rattle.term_expand.specs.declared.TheConstants.{MAX_ADDRESS}
 use Rattle.wb_top.specs.declared.TheConstants.{MAX_STRANDS, MAX_IMAGE, MAX_PRINTED, MAX_SIZE, MAX_COUNT}
 use Rattle.wb_top.specs.declared.command.Command.{Command}
 use Rattle.wb_top.specs.declared.command.Command.TheVariants.{Compare, Terms, Check, Normal, Same, Act, Eval, Value, Expand, Derive, Laver, Row, Session, Bench}
-use Rattle.wb_top.specs.Commands.{whole_number, number_of, one_number, both, two_numbers, check_of, act_by, act_on, act_of, is_side, sides_of, address_of, expand_of, derive_of, session_of, row_by, row_in, row_of_numbers, pairs_by, bench_by, bench_of, command_of, IsBounded}
+use Rattle.wb_top.specs.Commands.{one_number, both, two_numbers, check_of, act_by, act_on, act_of, is_side, sides_of, address_of, expand_of, derive_of, session_of, row_by, row_in, row_of_numbers, pairs_by, bench_by, bench_of, command_of, IsBounded}
 use Rattle.wb_top.specs.Benching.{IsBoundedPairs}
 use Rattle.wb_top.specs.declared.bench.Pairs.{Pairs}
 
@@ -180,7 +180,7 @@ record IsBetween (low high n : ℕ) : Type 0 where
   above : low ≤ n
   below : n ≤ high
 
--- a number that is the whole word is within its bounds
+-- a number that is the whole text is within its bounds
 whole_number-within
     : (low high size : ℕ) (read : Option (ℕ × ℕ)) (n : ℕ)
     → whole_number low high size read ≡ Some n
@@ -226,7 +226,7 @@ two_numbers-within
 two_numbers-within low high [] n is = absurd (cc)
 two_numbers-within low high (a ∷ []) n is = absurd (cc)
 two_numbers-within low high (a ∷ (b ∷ [])) n is =
-    both-within low high (number_of low high a) (number_of low high b) n
+    both-within low high (number_within low high a) (number_within low high b) n
     (whole_number-within low high (length a) (number_at a))
     (whole_number-within low high (length b) (number_at b)) is
 two_numbers-within low high (a ∷ (b ∷ (c ∷ rest))) n is = absurd (cc)
@@ -307,7 +307,7 @@ act_on-IsBounded
     → IsBounded command
 act_on-IsBounded None index limit command few is = cc
 act_on-IsBounded (Some n) index limit command few is =
-    act_by-IsBounded n (number_of 1 n index) (number_of 1 MAX_IMAGE limit) command (few n refl)
+    act_by-IsBounded n (number_within 1 n index) (number_within 1 MAX_IMAGE limit) command (few n refl)
     (whole_number-within 1 n (length index) (number_at index))
     (whole_number-within 1 MAX_IMAGE (length limit) (number_at limit)) is
 
@@ -319,7 +319,7 @@ act_of-IsBounded [] command is = cc
 act_of-IsBounded (a ∷ []) command is = cc
 act_of-IsBounded (a ∷ (b ∷ [])) command is = cc
 act_of-IsBounded (a ∷ (b ∷ (c ∷ []))) command is =
-    act_on-IsBounded (number_of 2 MAX_STRANDS a) b c command
+    act_on-IsBounded (number_within 2 MAX_STRANDS a) b c command
     (whole_number-within 2 MAX_STRANDS (length a) (number_at a)) is
 act_of-IsBounded (a ∷ (b ∷ (c ∷ (d ∷ rest)))) command is = cc
 
@@ -342,7 +342,7 @@ row_in-IsBounded
     → IsBounded command
 row_in-IsBounded None row command small is = cc
 row_in-IsBounded (Some n) row command small is =
-    row_by-IsBounded n (number_of 1 (2 ^ n) row) command (small n refl)
+    row_by-IsBounded n (number_within 1 (2 ^ n) row) command (small n refl)
     (whole_number-within 1 (2 ^ n) (length row) (number_at row)) is
 
 row_of_numbers-IsBounded
@@ -352,7 +352,7 @@ row_of_numbers-IsBounded
 row_of_numbers-IsBounded [] command is = cc
 row_of_numbers-IsBounded (a ∷ []) command is = cc
 row_of_numbers-IsBounded (a ∷ (b ∷ [])) command is =
-    row_in-IsBounded (number_of 0 MAX_EXPONENT a) b command
+    row_in-IsBounded (number_within 0 MAX_EXPONENT a) b command
     (whole_number-within 0 MAX_EXPONENT (length a) (number_at a)) is
 row_of_numbers-IsBounded (a ∷ (b ∷ (c ∷ rest))) command is = cc
 
@@ -404,11 +404,11 @@ bench_of-IsBounded (a ∷ (b ∷ (c ∷ (d ∷ [])))) command is = cc
 bench_of-IsBounded (a ∷ (b ∷ (c ∷ (d ∷ (e ∷ []))))) command is = cc
 bench_of-IsBounded (a ∷ (b ∷ (c ∷ (d ∷ (e ∷ (f ∷ [])))))) command is =
     bench_by-IsBounded
-    (pairs_by (number_of 2 MAX_STRANDS a) (number_of 0 MAX_SIZE b) (number_of 0 MAX_BOUND e)
-    (number_of 0 MAX_BOUND f))
-    (number_of 1 MAX_COUNT c) (number_of 0 (2 ^ 64 - 1) d) command
-    (λ p. pairs_by-IsBounded (number_of 2 MAX_STRANDS a) (number_of 0 MAX_SIZE b)
-    (number_of 0 MAX_BOUND e) (number_of 0 MAX_BOUND f) p
+    (pairs_by (number_within 2 MAX_STRANDS a) (number_within 0 MAX_SIZE b) (number_within 0 MAX_BOUND e)
+    (number_within 0 MAX_BOUND f))
+    (number_within 1 MAX_COUNT c) (number_within 0 (2 ^ 64 - 1) d) command
+    (λ p. pairs_by-IsBounded (number_within 2 MAX_STRANDS a) (number_within 0 MAX_SIZE b)
+    (number_within 0 MAX_BOUND e) (number_within 0 MAX_BOUND f) p
     (whole_number-within 2 MAX_STRANDS (length a) (number_at a))
     (whole_number-within 0 MAX_SIZE (length b) (number_at b))
     (whole_number-within 0 MAX_BOUND (length e) (number_at e))

@@ -3,64 +3,23 @@
 -- What the first lines of an input are decides what its words are (`one_word-first` and its kin). Words
 -- that are read on so many strands are on them, and can be read again (`two_words-IsReadOn`), also on more
 -- strands (`two_words-more_strands`).
-use Rattle.std.proofs.Common.{◌≡◌, ℕ, ◌+◌, ◌<◌, ◌≤◌, Bool, true, false, not, cond, ltb, length, arith, List, [], ◌∷◌, Option, Some, None, Result, Ok, Err, refl, sym, ap, subst, ◌∙◌}
-use Rattle.std.specs.List.{position_or_len}
+use Rattle.std.proofs.Common.{◌≡◌, ℕ, ◌+◌, ◌<◌, ◌≤◌, arith, List, [], ◌∷◌, Option, Some, None, Result, Ok, Err, refl, sym, ap, subst, ◌∙◌}
 use Rattle.std.specs.Result.{IsErrAnd}
-use Rattle.std.proofs.lemmas.Bool.{lt-ltb, le-ltb, ltb-true, ltb-false}
 use Rattle.wb_base.specs.Lines.{lines_of}
-use Rattle.braid_word.specs.Words.{Letter, IsOn}
+use Rattle.braid_word.specs.Words.{Letter, IsOn, first_outside}
 use Rattle.braid_word.specs.Notation.{word_of, IsReadable}
 use Rattle.braid_word.specs.declared.reader.WordErr.{WordErr}
 use Rattle.braid_word.specs.declared.TheConstants.{MAX_INDEX}
-use Rattle.braid_word.proofs.WordLemmas.{each_weaker}
+use Rattle.braid_word.proofs.WordLemmas.{each_weaker, first_outside-on, on-first_outside}
 use Rattle.braid_word.proofs.ReadWordLemmas.{IsReadable-word_of}
 use Rattle.wb_top.specs.declared.input.Fault.{Fault}
 use Rattle.wb_top.specs.declared.input.Fault.TheVariants.{Lines}
 use Rattle.wb_top.specs.declared.input.InputErr.{InputErr}
 use Rattle.wb_top.specs.declared.input.InputErr.TheVariants as input_errors
-use Rattle.wb_top.specs.Inputs.{first_beyond, unless_beyond, word_by, word_on, only_word, one_word_of, one_word, second_word, first_word, two_words_of, two_words}
+use Rattle.wb_top.specs.Inputs.{unless_outside, word_by, word_on, only_word, one_word_of, one_word, second_word, first_word, two_words_of, two_words}
 use Rattle.wb_top.specs.Reading.{Fails, Reads}
 
 -- ---- Words on so many strands ----
-
--- The test for a letter that isn't on so many strands.
-abbrev is_beyond : ℕ → Letter → Bool
-is_beyond strands x = not (ltb x.index strands)
-
--- a position that is none is past the end
-none-past : (k n : ℕ) → cond (ltb k n) (Some k) None ≡ None → n ≤ k
-none-past k n none = go (ltb k n) refl none
-  where
-    go : (within : Bool) → ltb k n ≡ within → cond within (Some k) None ≡ None → n ≤ k
-    go true test none = absurd (cc)
-    go false test none = ltb-false k n test
-
--- letters of which none is beyond the strands
-past-on
-    : (strands : ℕ) (w : List Letter)
-    → IsOn (MAX_INDEX + 1) w
-    → length w ≤ position_or_len (is_beyond strands) w
-    → IsOn strands w
-past-on strands [] on past = tt
-past-on strands (x ∷ w) on past = go (ltb x.index strands) refl (past-on strands w on.1)
-  where
-    go
-        : (low : Bool)
-        → ltb x.index strands ≡ low
-        → (length w ≤ position_or_len (is_beyond strands) w → IsOn strands w)
-        → IsOn strands (x ∷ w)
-    go true low rest =
-        ((on.0.0, ltb-true x.index strands low), rest (let more = rw low at past in omega arith))
-    go false high rest = absurd (let more = rw high at past in omega arith)
-
--- none is beyond where all are on
-on-past
-    : (strands : ℕ) (w : List Letter)
-    → IsOn strands w
-    → position_or_len (is_beyond strands) w ≡ length w
-on-past strands [] on = refl
-on-past strands (x ∷ w) on =
-    rw (lt-ltb x.index strands on.0.1) (let rest = on-past strands w on.1 in omega arith)
 
 -- What a word is that was read on so many strands.
 pub record IsReadOn (strands : ℕ) (w : List Letter) : Type 0 where
@@ -71,17 +30,17 @@ pub record IsReadOn (strands : ℕ) (w : List Letter) : Type 0 where
 word_by-Ok
     : (strands k : ℕ) (read : Result (List Letter) WordErr) (w : List Letter)
     → word_by strands k read ≡ Ok w
-    → (read ≡ Ok w) × (first_beyond strands w ≡ None)
-word_by-Ok strands k (Ok v) w is = go (first_beyond strands v) refl is
+    → (read ≡ Ok w) × (first_outside strands w ≡ None)
+word_by-Ok strands k (Ok v) w is = go (first_outside strands v) refl is
   where
     go
         : (o : Option ℕ)
-        → first_beyond strands v ≡ o
-        → unless_beyond k v o ≡ Ok w
-        → (◌≡◌ {A = Result (List Letter) WordErr} (Ok v) (Ok w)) × (first_beyond strands w ≡ None)
+        → first_outside strands v ≡ o
+        → unless_outside k v o ≡ Ok w
+        → (◌≡◌ {A = Result (List Letter) WordErr} (Ok v) (Ok w)) × (first_outside strands w ≡ None)
     go None none is =
         let same : v ≡ w = cc in
-        (ap (λ z. Ok z) same, subst (λ z. first_beyond strands z ≡ None) same none)
+        (ap (λ z. Ok z) same, subst (λ z. first_outside strands z ≡ None) same none)
     go (Some place) found is = absurd (cc)
 word_by-Ok strands k (Err e) w is = absurd (cc)
 
@@ -94,8 +53,7 @@ word_on-IsReadOn strands k text w is =
     let readable = IsReadable-word_of text w read in
     record {
       readable = readable;
-      on = past-on strands w readable.on
-          (none-past (position_or_len (is_beyond strands) w) (length w) none);
+      on = on-first_outside strands (MAX_INDEX + 1) w readable.on none;
     }
 
 -- a word that is read on some strands is read on more
@@ -108,9 +66,7 @@ word_on-more strands more k text w few is =
     let (read, none) = word_by-Ok strands k (word_of text) w is in
     let on = each_weaker (λ x. (1 ≤ x.index) × (x.index < strands)) (λ x. (1 ≤ x.index) × (x.index < more))
     (λ x low. (low.0, let below = low.1 in omega (arith, below))) w (word_on-IsReadOn strands k text w is).on in
-    let none : first_beyond more w ≡ None
-    = rw (on-past more w on, le-ltb (length w) (length w) (omega arith)) refl in
-    rw (read, none) refl
+    rw (read, first_outside-on more w on) refl
 
 -- ---- The words of an input ----
 

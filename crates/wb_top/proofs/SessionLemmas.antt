@@ -12,7 +12,7 @@ use Rattle.wb_top.specs.declared.command.Command.{Command}
 use Rattle.wb_top.specs.declared.command.Command.TheVariants.{Session}
 use Rattle.wb_top.specs.Commands.{command_of, reads_input}
 use Rattle.wb_top.specs.Answer.{IsTold, told_nothing, told_answer}
-use Rattle.wb_top.specs.Answers.{conversed, in_limit, AnswersWords, IsAnswer}
+use Rattle.wb_top.specs.Answers.{in_limit, AnswersWords, IsAnswer}
 use Rattle.wb_top.proofs.AnswerLemmas.{left-short, left-long}
 use Rattle.wb_top.proofs.VerdictLemmas.{HasSaid, answers-Done}
 
@@ -20,9 +20,9 @@ use Rattle.wb_top.proofs.VerdictLemmas.{HasSaid, answers-Done}
 IsAnswer-session
     : (words : List (List ℕ)) (input : List ℕ)
     → Some Session ≡ command_of words
-    → IsAnswer words input (conversed input)
+    → IsAnswer words input (session_answer input)
 IsAnswer-session words input known =
-    subst (λ (c : Option Command). AnswersWords c input (conversed input)) known
+    subst (λ (c : Option Command). AnswersWords c input (session_answer input)) known
     (in_limit (λ reads. absurd (cc)) refl)
 
 -- what was told of a session
@@ -33,11 +33,11 @@ pub IsTold-session
     → IfSome source (λ input. IsTold (IsAnswer words input) s old new)
 IsTold-session words None s old new known told = tt
 IsTold-session words (Some input) Done old new known told =
-    told_answer (conversed input) (IsAnswer-session words input known) told
+    told_answer (session_answer input) (IsAnswer-session words input known) told
 IsTold-session words (Some input) Limit old new known told =
-    told_answer (conversed input) (IsAnswer-session words input known) told
+    told_answer (session_answer input) (IsAnswer-session words input known) told
 IsTold-session words (Some input) WriteFault old new known told =
-    told_answer (conversed input) (IsAnswer-session words input known) told
+    told_answer (session_answer input) (IsAnswer-session words input known) told
 IsTold-session words (Some input) ReadFault old new known told = told_nothing (inl refl)
 IsTold-session words (Some input) Memory old new known told = told_nothing (inr refl)
 IsTold-session words (Some input) Refused old new known told = absurd told
@@ -55,7 +55,7 @@ Says-session words None s old new known told done = tt
 Says-session words (Some input) s old new known told done =
     let (status, took) = subst (λ (t : Status). serving.IsTold (session_answer input) t old new) done told in
     subst (λ (c : Option Command). IfSome c (HasSaid words input old new)) known
-    (conversed input, IsAnswer-session words input known, took, answers-Done input (conversed input) refl status)
+    (session_answer input, IsAnswer-session words input known, took, answers-Done input (session_answer input) refl status)
 
 -- how far a session has read that has come to an answer
 pub left-session

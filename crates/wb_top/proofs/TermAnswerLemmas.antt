@@ -4,6 +4,7 @@
 use Rattle.std.proofs.Common.{◌≡◌, ◌≢◌, ◌⊎◌, inl, inr, ◌↔◌, ℕ, ◌+◌, ◌<◌, ◌≤◌, List, length, decimal, Option, Some, None, Result, Ok, Err, is_some, true, refl, sym, ap, subst, ◌∙◌, arith}
 use Rattle.std.proofs.lemmas.Bool.{lt-ltb, le-ltb, cases_lt}
 use Rattle.wb_base.specs.Lines.{lines_of, line}
+use Rattle.wb_base.specs.Status.{Answer, answer}
 use Rattle.wb_base.specs.declared.status.Status.TheVariants.{Done}
 use Rattle.braid_word.specs.Words.{Letter}
 use Rattle.braid_word.specs.Notation.{word_text}
@@ -20,7 +21,6 @@ use Rattle.term_eval.proofs.BraidLemmas.{length-braid}
 use Rattle.laver_table.specs.Table.{IsLaver}
 use Rattle.laver_table.proofs.LaverLemmas.{IsLaver-only}
 use Rattle.term_eval.specs.Values.{value_of}
-use Rattle.wb_top.specs.Answer.{Answer, answer}
 use Rattle.wb_top.specs.TermAnswers.{file_refused, length_needed, IsOnTerm, on_refusal, on_term, evaluated, valued, terms_compared, AreCompared, terms_refused, terms_read}
 
 -- a term has one leaf more than its braid word has letters, at most

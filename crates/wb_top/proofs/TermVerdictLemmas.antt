@@ -9,6 +9,7 @@ use Rattle.std.specs.Option.{option_map}
 use Rattle.std.proofs.lemmas.Bool.{cond_both, ltb-false}
 use Rattle.std.proofs.Math.Nat.{le-max_left, le-max_right}
 use Rattle.wb_base.specs.Lines.{lines_of, line}
+use Rattle.wb_base.specs.Status.{Answer, answer}
 use Rattle.wb_base.specs.declared.status.Status.{Status}
 use Rattle.wb_base.specs.declared.status.Status.TheVariants.{Done, Refused, Input, Limit}
 use Rattle.braid_word.specs.Words.{quotient}
@@ -28,7 +29,6 @@ use Rattle.trace_format.proofs.TraceLaws.{term_trace_text-strict_text}
 use Rattle.trace_check.specs.Accepted.{IsAccepted, IsValid}
 use Rattle.trace_check.proofs.AcceptedLemmas.{IsValid-accepted, IsStepOn-handle_step}
 use Rattle.wb_top.specs.declared.TheConstants.{MAX_INPUT}
-use Rattle.wb_top.specs.Answer.{Answer, answer}
 use Rattle.wb_top.specs.Reductions.{ended, run_answer, trace_of}
 use Rattle.wb_top.specs.TermAnswers.{file_refused, evaluated, term_trace_of, terms_compared, AreCompared, terms_refused, terms_read, IsOnTerm, on_refusal, on_term, valued}
 use Rattle.ld_term.specs.Terms.{Term, height, Expands, IsEquivalent, stay, forward, derived}

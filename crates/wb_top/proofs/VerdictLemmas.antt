@@ -9,6 +9,7 @@ use Rattle.std.proofs.Common.{◌≡◌, ◌↔◌, ◌⊎◌, inl, inr, ℕ, �
 use Rattle.std.specs.Option.{option_map}
 use Rattle.std.specs.Io.KnownBytes.{append_known}
 use Rattle.wb_base.specs.Lines.{lines_of, line}
+use Rattle.wb_base.specs.Status.{Answer, answer}
 use Rattle.wb_base.specs.declared.status.Status.{Status}
 use Rattle.wb_base.specs.declared.status.Status.TheVariants.{Done, Refused, Input, Limit}
 use Rattle.braid_word.specs.Words.{Letter, quotient, IsOn}
@@ -41,13 +42,13 @@ use Rattle.wb_top.specs.declared.command.Command.{Command}
 use Rattle.wb_top.specs.declared.command.Command.TheVariants.{Compare, Terms, Check, Normal, Same, Act, Eval, Value, Expand, Derive, Laver, Row, Session, Bench}
 use Rattle.wb_top.specs.declared.input.Fault.{Fault}
 use Rattle.session_run.specs.declared.TheConstants as limits
-use Rattle.session_run.specs.Conversation.{answers}
+use Rattle.session_run.specs.Conversation.{answers, session_answer}
 use Rattle.wb_top.specs.Commands.{command_of, reads_input, IsBounded}
 use Rattle.wb_top.specs.Inputs.{one_word, two_words}
-use Rattle.wb_top.specs.Answer.{Answer, answer, limit_met, Told}
+use Rattle.wb_top.specs.Answer.{limit_met, Told}
 use Rattle.wb_top.specs.Reductions.{ended, run_answer, trace_of}
 use Rattle.wb_top.specs.TermAnswers.{evaluated, valued}
-use Rattle.wb_top.specs.Answers.{compared_words, accepted_text, checked, images_fit, acted_word, whole_table, table_row, same_text, different_text, IsNormalOf, are_same, are_different, IsSameOf, conversed, AnswersShort, Answers, past_limit, in_limit, AnswersWords, IsAnswer}
+use Rattle.wb_top.specs.Answers.{compared_words, accepted_text, checked, images_fit, acted_word, whole_table, table_row, same_text, different_text, IsNormalOf, are_same, are_different, IsSameOf, AnswersShort, Answers, past_limit, in_limit, AnswersWords, IsAnswer}
 use Rattle.wb_top.specs.Promises.{HasVerdict, IsChecked, HasRefusal, HasNormalForm, HasDecision, HasImage, HasTable, HasRow, Says}
 use Rattle.handle_reduce.proofs.RunLemmas.{length-steps}
 use Rattle.wb_top.proofs.TraceLengths.{length-trace_text}
@@ -200,7 +201,7 @@ HasImage-acted strands index limit input (Ok w) a words is done =
 -- ---- The answer of `session` ----
 
 -- a session that is done has answered all lines
-pub answers-Done : (input : List ℕ) (a : Answer) → conversed input ≡ a → a.status ≡ Done → a.text ≡ answers [] (lines_of input)
+pub answers-Done : (input : List ℕ) (a : Answer) → session_answer input ≡ a → a.status ≡ Done → a.text ≡ answers [] (lines_of input)
 answers-Done input a is done =
     go (ltb limits.MAX_INPUT (length input)) refl
   where
@@ -209,8 +210,8 @@ answers-Done input a is done =
     go false short = rw short at (ap (λ (b : Answer). b.text) (sym is))
 
 -- a session isn't refused
-conversed-Refused : (input : List ℕ) (a : Answer) → conversed input ≡ a → a.status ≡ Refused → ⊥
-conversed-Refused input a is refused = go (ltb limits.MAX_INPUT (length input)) refl
+session_answer-Refused : (input : List ℕ) (a : Answer) → session_answer input ≡ a → a.status ≡ Refused → ⊥
+session_answer-Refused input a is refused = go (ltb limits.MAX_INPUT (length input)) refl
   where
     go : (long : Bool) → ltb limits.MAX_INPUT (length input) ≡ long → ⊥
     go true long = let other : Limit ≡ Refused = rw long at (ap (λ (b : Answer). b.status) is ∙ refused) in cc
@@ -486,7 +487,7 @@ Refused-AnswersShort Derive input a is refused =
     absurd (IsOnTerm-Refused derived_in input a (λ made t. listed-Refused _ _ a) is refused)
 Refused-AnswersShort (Laver exponent) input a is refused = absurd (done-Refused _ a is refl refused)
 Refused-AnswersShort (Row exponent row) input a is refused = absurd (done-Refused _ a is refl refused)
-Refused-AnswersShort Session input a is refused = absurd (conversed-Refused input a is refused)
+Refused-AnswersShort Session input a is refused = absurd (session_answer-Refused input a is refused)
 Refused-AnswersShort (Bench pairs count seed) input a is refused = absurd (done-Refused _ a is refl refused)
 
 Refused-Answers

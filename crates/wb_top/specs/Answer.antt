@@ -1,7 +1,6 @@
--- An answer of the program: a status and a text, and what a sink was told of one.
+-- Answers of the program that commands share, and what a sink was told of one.
 -- Source: this project's own.
 --
---   Answer               a status and a text
 --   usage                the answer to words that are no command
 --   bad_input fault      the answer to an input that isn't of the command's form, or has no part at an address
 --   limit_met name n     the answer where a limit was met
@@ -11,19 +10,13 @@ use Rattle.std.specs.Prelude.{◌≡◌, ℕ, ◌⊎◌, List, ◌++◌, codes, 
 use Rattle.std.specs.Io.KnownBytes.{append_known}
 use Rattle.wb_base.specs.Streams.{PutsFront}
 use Rattle.wb_base.specs.Lines.{line}
+use Rattle.wb_base.specs.Status.{Answer, answer}
 use Rattle.wb_base.specs.declared.status.Status.{Status}
 use Rattle.wb_base.specs.declared.status.Status.TheVariants.{Done, Refused, Words, Input, Limit, ReadFault, WriteFault, Memory}
 use Rattle.wb_top.specs.declared.input.Fault.{Fault}
 use Rattle.wb_top.specs.Inputs.{fault_text}
 
 -- ---- Answers ----
-
-pub record Answer : Type 0 where
-  pub status : Status
-  pub text : List ℕ
-
-abbrev pub answer : Status → List ℕ → Answer
-answer status text = record { status = status; text = text }
 
 -- Words that are no command.
 abbrev pub usage : Answer

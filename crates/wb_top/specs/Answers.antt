@@ -10,7 +10,6 @@
 --   acted I L w               the answer of `act N I L` on the word w
 --   whole_table n             the answer of `laver n`
 --   table_row n p             the answer of `row n p`
---   conversed input           the answer of `session`
 --   benched pairs count seed  the answer of `bench`
 --   Answers command input a   a is the answer of a command on an input
 --   IsAnswer words input a    a is the answer of the program
@@ -18,6 +17,7 @@
 -- No words and no input have two answers (`law_one_answer`).
 use Rattle.std.specs.Prelude.{◌≡◌, ℕ, ◌+◌, ◌^◌, ◌<◌, ◌≤◌, ◌&&◌, not, Bool, true, false, nat_lt, if◌then◌else◌, List, [], ◌∷◌, ◌++◌, length, codes, decimal, Option, Some, None, Result, Ok, Err}
 use Rattle.wb_base.specs.Lines.{lines_of, line}
+use Rattle.wb_base.specs.Status.{Answer, answer}
 use Rattle.wb_base.specs.declared.status.Status.TheVariants.{Done, Refused}
 use Rattle.braid_word.specs.Words.{Letter}
 use Rattle.braid_word.specs.Equivalence.{EquivalentOn}
@@ -45,7 +45,7 @@ use Rattle.wb_top.specs.Inputs.{one_word, two_words}
 use Rattle.wb_top.specs.declared.bench.Pairs.{Pairs}
 use Rattle.wb_top.specs.Bench.{none_counted, tallied, tally_text}
 use Rattle.wb_top.specs.Commands.{command_of, reads_first}
-use Rattle.wb_top.specs.Answer.{Answer, answer, usage, bad_input, limit_met}
+use Rattle.wb_top.specs.Answer.{usage, bad_input, limit_met}
 use Rattle.wb_top.specs.Reductions.{compared}
 use Rattle.wb_top.specs.TermAnswers.{IsOnTerm, evaluated, valued, AreCompared}
 use Rattle.wb_top.specs.ExpansionAnswers.{expanded_at, derived_in}
@@ -148,12 +148,6 @@ table_row exponent row = answer Done (row_line (row_of (product_rows (2 ^ expone
 abbrev pub benched : Pairs → ℕ → ℕ → Answer
 benched pairs count seed = answer Done (tally_text count (tallied pairs count seed none_counted))
 
--- ---- session ----
-
--- The answers to the lines of a session, and the limit of its input where that is met.
-abbrev pub conversed : List ℕ → Answer
-conversed input = answer (session_answer input).status (session_answer input).text
-
 -- ---- The program ----
 
 -- The answer of a command on an input that isn't too long.
@@ -170,7 +164,7 @@ AnswersShort (Expand address) input a = IsOnTerm (expanded_at (length (lines_of 
 AnswersShort Derive input a = IsOnTerm derived_in input a
 AnswersShort (Laver exponent) input a = whole_table exponent ≡ a
 AnswersShort (Row exponent row) input a = table_row exponent row ≡ a
-AnswersShort Session input a = conversed input ≡ a
+AnswersShort Session input a = session_answer input ≡ a
 AnswersShort (Bench pairs count seed) input a = benched pairs count seed ≡ a
 
 -- The answer of a command on any input. One that reads none has no limit on it, and a session names its limit

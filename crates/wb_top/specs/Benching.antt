@@ -2,6 +2,8 @@
 --
 -- Of public clauses only `bounded` of `read_command` cites this, through `IsBounded`.
 --
+-- Source: this project's own.
+--
 --   IsBoundedPairs pairs   the strands, the size and the limits are within their bounds
 --   IsWithin k t           no more than k runs were counted of any kind
 use Rattle.std.specs.Prelude.{ℕ, ◌*◌, ◌≤◌}

@@ -2,7 +2,6 @@
 --
 -- Source: this project's own.
 --
---   number_of low high word   the number of a command word, if it is within these bounds
 --   address_of word           the address that a command word is, if it is one
 --   command_of words          the command, if the words are one
 --   reads_input command       whether it has an input
@@ -12,7 +11,7 @@ use Rattle.std.specs.Prelude.{ℕ, ◌-◌, ◌^◌, ◌≤◌, ◌==◌, ◌&&�
 use Rattle.std.specs.List.{list_all}
 use Rattle.std.specs.Option.{option_map}
 use Rattle.std.specs.Str.{bytes_eq}
-use Rattle.wb_base.specs.Numbers.{number_at}
+use Rattle.wb_base.specs.Numbers.{number_within}
 use Rattle.handle_reduce.specs.declared.TheConstants.{MAX_BOUND}
 use Rattle.laver_table.specs.declared.TheConstants.{MAX_EXPONENT}
 use Rattle.term_expand.specs.Expansions.{IsAddress}
@@ -23,19 +22,9 @@ use Rattle.wb_top.specs.declared.bench.Pairs.{Pairs}
 use Rattle.wb_top.specs.declared.command.Command.{Command}
 use Rattle.wb_top.specs.declared.command.Command.TheVariants.{Compare, Terms, Check, Normal, Same, Act, Eval, Value, Expand, Derive, Laver, Row, Session, Bench}
 
--- A number that is the whole word, and within these bounds.
-abbrev pub whole_number : ℕ → ℕ → ℕ → Option (ℕ × ℕ) → Option ℕ
-whole_number low high size None = None
-whole_number low high size (Some (value, digits)) =
-    if (digits == size) && not (nat_lt value low) && not (nat_lt high value) then Some value else None
-
--- The number that a command word is: from 1 to 64 it is one for `64`, and none for `01`, `0`, `65` and `1x`.
-abbrev pub number_of : ℕ → ℕ → List ℕ → Option ℕ
-number_of low high word = whole_number low high (length word) (number_at word)
-
 -- The one number of a command, within these bounds.
 abbrev pub one_number : ℕ → ℕ → List (List ℕ) → Option ℕ
-one_number low high (word ∷ []) = number_of low high word
+one_number low high (word ∷ []) = number_within low high word
 one_number low high other = None
 
 -- Both of two numbers, where there are both.
@@ -46,7 +35,7 @@ both None second = None
 
 -- The two numbers of a command, both within these bounds.
 abbrev pub two_numbers : ℕ → ℕ → List (List ℕ) → Option (ℕ × ℕ)
-two_numbers low high (first ∷ (second ∷ [])) = both (number_of low high first) (number_of low high second)
+two_numbers low high (first ∷ (second ∷ [])) = both (number_within low high first) (number_within low high second)
 two_numbers low high other = None
 
 -- `compare` with the most reductions, and the most letters.
@@ -77,10 +66,10 @@ act_by strands None limit = None
 
 abbrev pub act_on : Option ℕ → List ℕ → List ℕ → Option Command
 act_on None index limit = None
-act_on (Some strands) index limit = act_by strands (number_of 1 strands index) (number_of 1 MAX_IMAGE limit)
+act_on (Some strands) index limit = act_by strands (number_within 1 strands index) (number_within 1 MAX_IMAGE limit)
 
 abbrev pub act_of : List (List ℕ) → Option Command
-act_of (strands ∷ (index ∷ (limit ∷ []))) = act_on (number_of 2 MAX_STRANDS strands) index limit
+act_of (strands ∷ (index ∷ (limit ∷ []))) = act_on (number_within 2 MAX_STRANDS strands) index limit
 act_of other = None
 
 -- `eval` with the most letters of a braid word.
@@ -125,10 +114,10 @@ row_by exponent None = None
 
 abbrev pub row_in : Option ℕ → List ℕ → Option Command
 row_in None row = None
-row_in (Some exponent) row = row_by exponent (number_of 1 (2 ^ exponent) row)
+row_in (Some exponent) row = row_by exponent (number_within 1 (2 ^ exponent) row)
 
 abbrev pub row_of_numbers : List (List ℕ) → Option Command
-row_of_numbers (exponent ∷ (row ∷ [])) = row_in (number_of 0 MAX_EXPONENT exponent) row
+row_of_numbers (exponent ∷ (row ∷ [])) = row_in (number_within 0 MAX_EXPONENT exponent) row
 row_of_numbers other = None
 
 -- `session`, which has no numbers.
@@ -150,9 +139,9 @@ bench_by pairs count seed = None
 abbrev pub bench_of : List (List ℕ) → Option Command
 bench_of (strands ∷ (size ∷ (count ∷ (seed ∷ (handles ∷ (limit ∷ [])))))) =
     bench_by
-    (pairs_by (number_of 2 MAX_STRANDS strands) (number_of 0 MAX_SIZE size) (number_of 0 MAX_BOUND handles)
-    (number_of 0 MAX_BOUND limit))
-    (number_of 1 MAX_COUNT count) (number_of 0 (2 ^ 64 - 1) seed)
+    (pairs_by (number_within 2 MAX_STRANDS strands) (number_within 0 MAX_SIZE size) (number_within 0 MAX_BOUND handles)
+    (number_within 0 MAX_BOUND limit))
+    (number_within 1 MAX_COUNT count) (number_within 0 (2 ^ 64 - 1) seed)
 bench_of other = None
 
 -- The command of some words: its name, and then its numbers.

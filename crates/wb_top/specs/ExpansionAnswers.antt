@@ -8,6 +8,7 @@
 --   expanded_at k address made t  the answer of `expand` on the term t of line k, in the graph `made`
 --   derived_in made t           the answer of `derive` on the term t
 use Rattle.std.specs.Prelude.{ℕ, List}
+use Rattle.wb_base.specs.Status.{Answer, answer}
 use Rattle.wb_base.specs.declared.status.Status.TheVariants.{Done}
 use Rattle.ld_term.specs.Terms.{Term, derived}
 use Rattle.term_graph.specs.Asks.{Asked, answered, too_deep, full, ask_all}
@@ -15,7 +16,7 @@ use Rattle.term_graph.specs.Listings.{listing_text}
 use Rattle.term_expand.specs.Expansions.{Expansion, expanded, no_place, not_expandable, expansion_at}
 use Rattle.term_expand.specs.Requests.{expand_requests, derive_requests}
 use Rattle.wb_top.specs.declared.input.Fault.TheVariants as faults
-use Rattle.wb_top.specs.Answer.{Answer, answer, bad_input}
+use Rattle.wb_top.specs.Answer.{bad_input}
 use Rattle.wb_top.specs.TermAnswers.{height_met, nodes_met}
 
 -- The listing of a term, or the limit that a product meets.

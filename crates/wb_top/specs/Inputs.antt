@@ -8,10 +8,9 @@
 --   one_word N input      the word of an input of exactly one line, or its first fault
 --   two_words N input     the words of an input of exactly two lines, or its first fault
 --   fault_text fault      the line that says what is wrong
-use Rattle.std.specs.Prelude.{ℕ, ◌+◌, not, nat_lt, List, [], ◌∷◌, ◌++◌, codes, decimal, Option, Some, None, Result, Ok, Err}
-use Rattle.std.specs.List.{position}
+use Rattle.std.specs.Prelude.{ℕ, ◌+◌, List, [], ◌∷◌, ◌++◌, codes, decimal, Option, Some, None, Result, Ok, Err}
 use Rattle.wb_base.specs.Lines.{lines_of, line}
-use Rattle.braid_word.specs.Words.{Letter}
+use Rattle.braid_word.specs.Words.{Letter, first_outside}
 use Rattle.braid_word.specs.Notation.{word_of}
 use Rattle.braid_word.specs.declared.reader.WordErr.{WordErr}
 use Rattle.braid_word.specs.declared.reader.WordErr.TheVariants as word_errors
@@ -28,16 +27,12 @@ fault_of k (word_errors.BadIndex place) = Index k place
 fault_of k (word_errors.TooLong count) = Long k count
 fault_of k word_errors.Memory = Lines k
 
--- The place, counted from 0, of the first letter that isn't on so many strands.
-abbrev pub first_beyond : ℕ → List Letter → Option ℕ
-first_beyond strands w = position (λ (x : Letter). not (nat_lt x.index strands)) w
-
-abbrev pub unless_beyond : ℕ → List Letter → Option ℕ → Result (List Letter) Fault
-unless_beyond k w None = Ok w
-unless_beyond k w (Some place) = Err (Strands k (place + 1))
+abbrev pub unless_outside : ℕ → List Letter → Option ℕ → Result (List Letter) Fault
+unless_outside k w None = Ok w
+unless_outside k w (Some place) = Err (Strands k (place + 1))
 
 abbrev pub word_by : ℕ → ℕ → Result (List Letter) WordErr → Result (List Letter) Fault
-word_by strands k (Ok w) = unless_beyond k w (first_beyond strands w)
+word_by strands k (Ok w) = unless_outside k w (first_outside strands w)
 word_by strands k (Err e) = Err (fault_of k e)
 
 -- The word of a line. Its spelling comes before the strands.

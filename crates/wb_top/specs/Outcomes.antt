@@ -1,8 +1,9 @@
--- The answer that an outcome is written as.
+-- The answer that an outcome is written as. No public clause cites this.
 --
 -- Source: this project's own.
 use Rattle.std.specs.Prelude.{ℕ, Bool, true, false, List, codes, decimal, map}
 use Rattle.wb_base.specs.Lines.{line}
+use Rattle.wb_base.specs.Status.{Answer, answer}
 use Rattle.wb_base.specs.declared.status.Status.TheVariants.{Done}
 use Rattle.wb_base.specs.declared.status.Status.TheVariants as statuses
 use Rattle.braid_word.specs.Notation.{word_text}
@@ -19,7 +20,7 @@ use Rattle.trace_format.specs.declared.verdict.Verdict.{Verdict}
 use Rattle.wb_top.specs.declared.compare.Ended.{Ended}
 use Rattle.wb_top.specs.declared.compare.Ended.TheVariants as endings
 use Rattle.wb_top.specs.Bench.{tally_text}
-use Rattle.wb_top.specs.Answer.{Answer, answer, usage, bad_input, limit_met}
+use Rattle.wb_top.specs.Answer.{usage, bad_input, limit_met}
 use Rattle.wb_top.specs.Reductions.{trace_of}
 use Rattle.wb_top.specs.TermAnswers.{height_met, nodes_met, length_needed, index_met}
 use Rattle.wb_top.specs.Answers.{accepted_text, refused_text, same_text, different_text}

@@ -9,6 +9,7 @@
 --   compared H L u v       the answer of `compare H L` on the words u and v
 use Rattle.std.specs.Prelude.{ℕ, List, codes, map, Option, Some, None}
 use Rattle.std.specs.Option.{option_map}
+use Rattle.wb_base.specs.Status.{Answer, answer}
 use Rattle.wb_base.specs.declared.status.Status.TheVariants.{Done}
 use Rattle.braid_word.specs.Words.{Letter, quotient}
 use Rattle.handle_reduce.specs.Runs.{RunState, run_after}
@@ -17,7 +18,7 @@ use Rattle.handle_reduce.specs.declared.progress.Progress.TheVariants as progres
 use Rattle.trace_format.specs.declared.verdict.Verdict.{Verdict}
 use Rattle.trace_format.specs.Verdicts.{verdict_of}
 use Rattle.trace_format.specs.TraceText.{Header, words, Trace, trace_text, handle_step}
-use Rattle.wb_top.specs.Answer.{Answer, answer, limit_met}
+use Rattle.wb_top.specs.Answer.{limit_met}
 
 -- The answer of a run that stands so after as many turns as it may reduce handles, where `text` writes its
 -- trace. Such a run isn't running, and its sign isn't mixed.

@@ -16,6 +16,7 @@
 --   AreCompared H L input a       a is the answer of `terms H L`
 use Rattle.std.specs.Prelude.{◌≡◌, ℕ, ◌+◌, ◌^◌, nat_lt, max, map, if◌then◌else◌, List, ◌++◌, codes, decimal, Option, Some, None}
 use Rattle.wb_base.specs.Lines.{lines_of, line}
+use Rattle.wb_base.specs.Status.{Answer, answer}
 use Rattle.wb_base.specs.declared.status.Status.TheVariants.{Done, Limit}
 use Rattle.braid_word.specs.Notation.{word_text}
 use Rattle.braid_word.specs.declared.TheConstants.{MAX_INDEX}
@@ -34,7 +35,7 @@ use Rattle.laver_table.specs.Product.{product_rows}
 use Rattle.trace_format.specs.declared.verdict.Verdict.{Verdict}
 use Rattle.trace_format.specs.TraceText.{TermTrace, term_trace_text, handle_step}
 use Rattle.wb_top.specs.declared.input.Fault.TheVariants as faults
-use Rattle.wb_top.specs.Answer.{Answer, answer, bad_input, limit_met}
+use Rattle.wb_top.specs.Answer.{bad_input, limit_met}
 use Rattle.wb_top.specs.Reductions.{run_answer}
 
 -- ---- Files that are refused ----

@@ -1,4 +1,4 @@
-ghost use Rattle.std.specs.Prelude.{◌≡◌, ◌≢◌, ◌+◌, ◌-◌, ◌<◌, ◌≤◌, ◌/◌, ◌%◌, ◌^◌, ◌==◌, length, IfOk, OnOk, OnErr};
+ghost use Rattle.std.specs.Prelude.{◌≡◌, ◌≢◌, ◌+◌, ◌-◌, ◌<◌, ◌≤◌, ◌/◌, ◌%◌, ◌==◌, length, IfOk};
 ghost use Rattle.wb_base.specs.Streams.{HasCause, Puts};
 ghost use Rattle.braid_word.specs.Words.{quotient};
 ghost use Rattle.handle_reduce.specs.declared.TheConstants.{MAX_BOUND};
@@ -20,9 +20,13 @@ use wb_base::{Failed, Sink, Status, put_numbered_line};
 /// their runs.
 #[derive(Clone, Copy, Debug, PartialEq, Eq)]
 pub struct Pairs {
+    /// The number of strands.
     pub strands: u32,
+    /// How many letters each word has.
     pub size: u32,
+    /// The most handle reductions of a run.
     pub handles: u32,
+    /// The most letters of the words of a run.
     pub limit: u32,
 }
 

@@ -1,7 +1,8 @@
 ghost use Rattle.std.specs.Prelude.{◌≡◌, ◌-◌, ◌^◌, ◌≤◌, map, string_bytes, IfSome};
 ghost use Rattle.std.specs.Option.{option_map};
+ghost use Rattle.wb_base.specs.Numbers.{number_within};
 ghost use Rattle.wb_top.specs.declared.command.Command.TheVariants.{Act, Row, Bench};
-ghost use Rattle.wb_top.specs.Commands.{number_of, one_number, two_numbers, compare_of, terms_of, check_of, normal_of, same_of, act_of, eval_of, value_of_numbers, address_of, expand_of, derive_of, laver_of, row_of_numbers, session_of, pairs_by, bench_of, command_of, reads_first, IsBounded};
+ghost use Rattle.wb_top.specs.Commands.{one_number, two_numbers, compare_of, terms_of, check_of, normal_of, same_of, act_of, eval_of, value_of_numbers, address_of, expand_of, derive_of, laver_of, row_of_numbers, session_of, pairs_by, bench_of, command_of, reads_first, IsBounded};
 ghost use Rattle.term_expand.specs.Expansions.{IsAddress};
 ghost use Rattle.wb_top.specs.Benching.{IsBoundedPairs};
 
@@ -11,7 +12,7 @@ use handle_reduce::MAX_BOUND;
 use laver_table::MAX_EXPONENT;
 use std::marker::Model;
 use term_expand::is_address;
-use wb_base::read_number;
+use wb_base::{read_number, read_within};
 
 /// The address of a part of a term.
 #[derive(Debug, Drop)]
@@ -54,65 +55,82 @@ impl<'a> Address<'a> {
     }
 }
 
-/// A command of the program.
+/// A command of the program. Its numbers have to be within the bounds of `IsBounded`, as those that are read are.
 #[derive(Debug, Drop)]
 pub enum Command<'a> {
-    /// Compares two words by at most so many handle reductions, over words of at most so many letters.
+    /// Compares two words.
     Compare {
+        /// The most handle reductions.
         handles: u32,
+        /// The most letters of the words of the run.
         limit: u32,
     },
-    /// Compares the braids of two terms, within the same limits.
+    /// Compares the braids of two terms.
     Terms {
+        /// The most handle reductions.
         handles: u32,
+        /// The most letters of the words of the run.
         limit: u32,
     },
     /// Checks a trace file.
     Check,
-    /// Gives the normal form of a word on so many strands.
+    /// Gives the normal form of a word.
     Normal {
+        /// The number of strands.
         strands: u32,
     },
-    /// Tells whether two words are equivalent on so many strands.
+    /// Tells whether two words are equivalent.
     Same {
+        /// The number of strands.
         strands: u32,
     },
-    /// Gives the image of this generator of the free group under a word on so many strands, over images
-    /// of at most so many generators.
+    /// Gives the image of a generator of the free group under a word.
     Act {
+        /// The number of strands.
         strands: u32,
+        /// The index of the generator, from 1.
         index: u32,
+        /// The most generators of an image.
         limit: u32,
     },
-    /// Gives the braid word of a term, if it has at most so many letters.
+    /// Gives the braid word of a term.
     Eval {
+        /// The most letters of the word.
         limit: u32,
     },
-    /// Gives the value of a term in the Laver table of size 2 to this exponent.
+    /// Gives the value of a term in a Laver table.
     Value {
+        /// The table has size 2 to this exponent.
         exponent: u32,
     },
-    /// Gives the listing of a term that is expanded at this address.
+    /// Gives the listing of a term that is expanded.
     Expand {
+        /// The address of the part that is expanded.
         address: Address<'a>,
     },
     /// Gives the listing of a derived term.
     Derive,
-    /// Gives the Laver table of size 2 to this exponent.
+    /// Gives a Laver table.
     Laver {
+        /// The table has size 2 to this exponent.
         exponent: u32,
     },
-    /// Gives a row of the Laver table of size 2 to this exponent.
+    /// Gives a row of a Laver table.
     Row {
+        /// The table has size 2 to this exponent.
         exponent: u32,
+        /// The number of the row, from 1.
         row: u32,
     },
     /// Answers command lines, one by one.
     Session,
-    /// Counts the runs of so many pairs of words that are made from a state on.
+    /// Counts how the runs of pairs of words end.
     Bench {
+        /// How each pair is made and reduced.
         pairs: Pairs,
+        /// How many pairs.
         count: u32,
+        /// The state from which the first letter is made.
         seed: u64,
     },
 }
@@ -138,20 +156,6 @@ impl<'a> Command<'a> {
             | Command::Session
             | Command::Bench { .. } => false,
         }
-    }
-}
-
-// The number of a command word, if it is within these bounds.
-fn read_within(word: &[u8], low: u32, high: u32) -> Option<u32>
-    ensures number { result ≡ number_of low high word.now }
-    ensures low { IfSome result (λ n. low ≤ n) }
-    ensures high { IfSome result (λ n. n ≤ high) }
-{
-    let (value, digits) = read_number(word)?;
-    if digits == word.len() && value >= u64::from(low) && value <= u64::from(high) {
-        Some(value as u32)
-    } else {
-        None
     }
 }
 
@@ -341,7 +345,7 @@ fn read_session(numbers: &[String]) -> Option<Command<'_>>
 
 // The number of a command word, if it is one.
 fn read_seed(word: &[u8]) -> Option<u64>
-    ensures { result ≡ number_of 0 (2 ^ 64 - 1) word.now }
+    ensures { result ≡ number_within 0 (2 ^ 64 - 1) word.now }
 {
     let (value, digits) = read_number(word)?;
     (digits == word.len()).then_some(value)
@@ -349,7 +353,7 @@ fn read_seed(word: &[u8]) -> Option<u64>
 
 // The pairs of `bench`, by its numbers of strands and letters, and its limits.
 fn read_pairs(strands: &[u8], size: &[u8], handles: &[u8], limit: &[u8]) -> Option<Pairs>
-    ensures pairs { result ≡ pairs_by (number_of 2 MAX_STRANDS strands.now) (number_of 0 MAX_SIZE size.now) (number_of 0 MAX_BOUND handles.now) (number_of 0 MAX_BOUND limit.now) }
+    ensures pairs { result ≡ pairs_by (number_within 2 MAX_STRANDS strands.now) (number_within 0 MAX_SIZE size.now) (number_within 0 MAX_BOUND handles.now) (number_within 0 MAX_BOUND limit.now) }
     ensures bounded { IfSome result IsBoundedPairs }
 {
     Some(Pairs {

@@ -1,10 +1,9 @@
 ghost use Rattle.std.specs.Prelude.{◌≡◌};
-ghost use Rattle.std.specs.List.{position};
 ghost use Rattle.wb_base.specs.Streams.{HasCause, Puts};
-ghost use Rattle.wb_top.specs.Inputs.{bare_fault, fault_text, first_beyond, numbered_fault, one_word, two_words, word_on};
+ghost use Rattle.wb_top.specs.Inputs.{bare_fault, fault_text, numbered_fault, one_word, two_words, word_on};
 ghost use Rattle.wb_top.specs.Reading.{Reads, read_fault};
 
-use braid_word::{Letter, Word, WordErr, read_word};
+use braid_word::{Word, WordErr, first_outside, read_word};
 use std::alloc::Global;
 use wb_base::{Failed, Sink, lines, put_line, put_numbered, put_numbered_line};
 
@@ -100,15 +99,6 @@ fn input_err(line: u64, error: WordErr) -> InputErr
     }
 }
 
-// The place of the first letter that isn't on so many strands.
-fn first_beyond(letters: &[Letter], strands: u32) -> Option<usize>
-    ensures { result ≡ first_beyond strands letters.now }
-{
-    letters
-        .iter()
-        .position(|letter| u32::from(letter.index) >= strands)
-}
-
 // The word of a line, on so many strands.
 fn read_on(alloc: Global, strands: u32, line: u64, text: &[u8]) -> Result<Word, InputErr>
     ensures { Reads result (word_on strands line text.now) }
@@ -117,7 +107,7 @@ fn read_on(alloc: Global, strands: u32, line: u64, text: &[u8]) -> Result<Word, 
         Ok(word) => word,
         Err(error) => return Err(input_err(line, error)),
     };
-    match first_beyond(word.letters(), strands) {
+    match first_outside(word.letters(), strands) {
         None => Ok(word),
         Some(place) => Err(InputErr::Fault(Fault::Strands(line, place as u64 + 1))),
     }

@@ -1,5 +1,5 @@
-ghost use Rattle.std.specs.Prelude.{◌≡◌, ℕ, List, map, string_bytes};
-ghost use Rattle.wb_top.specs.Answer.{Answer};
+ghost use Rattle.std.specs.Prelude.{◌≡◌, ℕ, map, string_bytes};
+ghost use Rattle.wb_base.specs.Status.{Answer};
 ghost use Rattle.wb_top.specs.Answers.{AnswersShort, IsAnswer};
 ghost use Rattle.wb_top.specs.declared.command.Command.TheVariants.{Compare};
 

@@ -18,6 +18,7 @@ mod terms;
 mod tests;
 mod values;
 
+pub use bench::Pairs;
 pub use command::{Address, Command, read_command};
 pub use laws::law_one_answer;
 pub use program::run;

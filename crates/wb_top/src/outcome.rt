@@ -1,4 +1,4 @@
-ghost use Rattle.std.specs.Prelude.{◌≡◌, ◌≢◌, ◌≤◌, ◌∷◌, ◌++◌, codes, ℕ, List};
+ghost use Rattle.std.specs.Prelude.{◌≡◌, ◌≢◌, ◌≤◌, ◌∷◌, ◌++◌, codes};
 ghost use Rattle.wb_base.specs.Lines.{line};
 ghost use Rattle.braid_word.specs.Notation.{word_text};
 ghost use Rattle.free_word.specs.FreeText.{free_text};

@@ -2,10 +2,11 @@ ghost use Rattle.std.specs.Prelude.{◌≡◌, ◌≢◌, ◌+◌, ◌≤◌, �
 ghost use Rattle.std.specs.Option.{option_map};
 ghost use Rattle.std.specs.Io.KnownBytes.{append_known};
 ghost use Rattle.wb_base.specs.Streams.{Rose, Skips};
+ghost use Rattle.wb_base.specs.Status.{Answer};
 ghost use Rattle.session_run.specs.Serving.{HasServed};
 ghost use Rattle.wb_top.specs.Commands.{command_of, reads_input, reads_first, IsBounded};
 ghost use Rattle.wb_top.specs.declared.command.Command.TheVariants.{Session};
-ghost use Rattle.wb_top.specs.Answer.{Answer, Told, IsTold, usage};
+ghost use Rattle.wb_top.specs.Answer.{Told, IsTold, usage};
 ghost use Rattle.wb_top.specs.Answers.{Answers, AnswersShort, IsAnswer};
 ghost use Rattle.wb_top.specs.Outcomes.{answer_of};
 ghost use Rattle.wb_top.specs.Promises.{HasRefusal, Says};

@@ -3,7 +3,6 @@ ghost use Rattle.braid_word.specs.declared.TheConstants.{MAX_INDEX};
 ghost use Rattle.handle_reduce.specs.declared.TheConstants.{MAX_BOUND};
 ghost use Rattle.ld_term.specs.Terms.{height};
 ghost use Rattle.term_graph.specs.TermLists.{term_at, braid_length};
-ghost use Rattle.ld_term.specs.StrictTexts.{strict_text};
 ghost use Rattle.term_graph.specs.declared.file_error.DefsErr.TheVariants.{Memory};
 ghost use Rattle.term_eval.specs.Braids.{braid};
 ghost use Rattle.wb_top.specs.TermAnswers.{file_refused, evaluated, IsOnTerm, braids_compared, terms_compared, AreCompared};
@@ -92,21 +91,6 @@ fn braid_of(
     }
 }
 
-// The strict text of a term whose braid word isn't too long.
-fn text_of(
-    alloc: Global,
-    graph: &TermGraph,
-    node: NodeId,
-    limit: u32,
-) -> Result<Vec<u8>, AllocError>
-    requires number { node < length graph.now }
-    requires limit { limit ≤ MAX_BOUND }
-    requires short { braid_length (term_at graph.now node) ≤ limit }
-    ensures { IfOk result (λ text. text.items ≡ strict_text (term_at graph.now node)) }
-{
-    graph.strict_text(alloc, node)
-}
-
 // Compares the braids of two terms, whose words are these, within these limits.
 fn compare_braids(
     alloc: Global,
@@ -131,8 +115,8 @@ fn compare_braids(
     let (left, right) = words;
     match reduce(alloc, left.letters(), right.letters(), handles, limit)? {
         Ended::Decided { verdict, reducer } => Ok(Outcome::ComparedTerms {
-            left: text_of(alloc, graph, first, limit)?,
-            right: text_of(alloc, graph, second, limit)?,
+            left: graph.strict_text(alloc, first)?,
+            right: graph.strict_text(alloc, second)?,
             verdict,
             reducer,
         }),

@@ -1,6 +1,6 @@
 -- What the file claims is what the lines that are left give.
 use Rattle.std.proofs.Common.{◌≡◌, length}
-use Rattle.trace_check.specs.Cutting.{cut}
+use Rattle.wb_base.specs.Lines.{cut}
 use Rattle.trace_check.specs.Checking.{walk, checked_of}
 use Rattle.trace_check.proofs.file.replay.Given as goal
 
