@@ -1,5 +1,7 @@
 -- Full sizes, periods and thresholds of the operation of Laver tables. No public clause cites this.
 --
+-- Source: A. Drapal, Homomorphisms of primitive left distributive groupoids, 1994.
+--
 --   IsFull N                     column N has N in every row
 --   IsPeriod N p period          row p first reaches N at column `period`
 --   IsThreshold M p period t     up to column t, row p of size 2M is that of size M, and up to `period`

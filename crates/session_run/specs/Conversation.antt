@@ -10,6 +10,8 @@
 --   Talk                     the jobs, the bytes behind the last LF, and all text so far
 --   heard t byte             what a byte makes of it
 --   heard_all t bytes        what bytes make of it, the first first
+--
+-- No public clause cites the last three.
 use Rattle.std.specs.Prelude.{ℕ, ◌==◌, nat_lt, if◌then◌else◌, List, [], ◌∷◌, ◌++◌, length, take, codes, decimal, Option, Some, None}
 use Rattle.wb_base.specs.Lines.{line, lines_of, whole_lines}
 use Rattle.wb_base.specs.Status.{Answer, answer}

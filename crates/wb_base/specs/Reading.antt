@@ -1,6 +1,8 @@
 -- How many bytes a refused reading has taken.
 --
 -- Source: this project's own.
+--
+--   Refuses limit old new e   what a reading within a limit that is refused for e has taken
 use Rattle.std.specs.Prelude.{ℕ, ◌+◌, ◌≤◌, List, Option}
 use Rattle.wb_base.specs.Streams.{Skips}
 use Rattle.wb_base.specs.declared.whole.ReadErr.{ReadErr}

@@ -1,6 +1,14 @@
 -- What the sources and sinks of this crate are seen as.
 --
 -- Source: this project's own.
+--
+--   SourceState, SureState   a source in memory, and one of which no call fails
+--   SinkState                a sink in memory
+--   IsFull sink bytes        bytes come and no room is left
+--   is_listed numbers n      whether a number is listed
+--   ReaderState              a source over a reader
+--   WriterState              a sink over a writer
+--   waiting_before waiting   how many bytes wait in such a sink when it takes the next ones
 use Rattle.std.specs.Prelude.{ℕ, ◌<◌, ◌≤◌, ◌==◌, Bool, if◌then◌else◌, List, length, Option}
 use Rattle.std.specs.List.{list_any}
 
