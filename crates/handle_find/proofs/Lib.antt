@@ -4,3 +4,9 @@ pub mod ReductLemmas
 pub mod ReductLength
 pub mod NoHandleLemmas
 pub mod HandleFacts
+pub mod CursorLemmas
+pub mod FrontLemmas
+pub mod SurveyLemmas
+pub mod BackLemmas
+pub mod ReduceLemmas
+pub mod LeftSign

@@ -74,7 +74,8 @@ HasIndicesOf w v = EachLetter (λ x. SomeLetter (λ y. y.index ≡ x.index) w) v
 -- Whether the letters at p and q, with p before q before the end, are a handle.
 abbrev pub is_handle_at : List Letter → ℕ × ℕ → Bool
 is_handle_at w (p, q) =
-    ((at w q).index == (at w p).index) && xor (at w q).negative (at w p).negative && list_all (λ (x : Letter). nat_lt (at w p).index x.index) (inside w p q)
+    ((at w q).index == (at w p).index) && xor (at w q).negative (at w p).negative && list_all
+    (λ (x : Letter). nat_lt (at w p).index x.index) (inside w p q)
 
 -- The pairs p < q < n, in the order of q and then of p.
 abbrev pub pairs_below : ℕ → List (ℕ × ℕ)

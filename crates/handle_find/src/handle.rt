@@ -23,7 +23,7 @@ pub fn is_handle(word: &[Letter], p: usize, q: usize) -> bool
 }
 
 // Whether two letters have one index and opposite signs.
-fn are_opposite(first: Letter, last: Letter) -> bool
+pub(crate) fn are_opposite(first: Letter, last: Letter) -> bool
     ensures { IsTrue result ↔ (last.index ≡ first.index) × (last.negative ≡ not first.negative) }
 {
     last.index == first.index && last.negative != first.negative

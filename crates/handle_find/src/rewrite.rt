@@ -48,9 +48,8 @@ pub fn reduct(alloc: Global, word: &[Letter], p: usize, q: usize) -> Result<Word
     Ok(Word::of(letters))
 }
 
-/// Writes the reduct at a handle over what a vector holds that has room for it, and so never ends for want
-/// of memory.
-pub fn write_reduct(word: &[Letter], p: usize, q: usize, into: &mut Vec<Letter>)
+// Writes the reduct at a handle over what a vector holds that has room for it.
+fn write_reduct(word: &[Letter], p: usize, q: usize, into: &mut Vec<Letter>)
     requires handle { IsHandle word.now p q }
     requires room { length (reduct word.now p q) ≤ vec_capacity into.old }
     ensures items { into.new.items ≡ reduct word.now p q }
@@ -65,8 +64,10 @@ pub fn write_reduct(word: &[Letter], p: usize, q: usize, into: &mut Vec<Letter>)
 
 // Appends what stands in the reduct for the letters inside a handle that begins with this letter.
 fn append_replaced(into: &mut Vec<Letter>, letters: &[Letter], first: Letter)
-    requires { length into.old.items + length (flat_map (replaced first.index first.negative) letters.now) ≤ vec_capacity into.old }
-    ensures items { into.new.items ≡ into.old.items ++ flat_map (replaced first.index first.negative) letters.now }
+    requires { length into.old.items + length (flat_map (replaced first.index first.negative) letters.now)
+        ≤ vec_capacity into.old }
+    ensures items { into.new.items ≡ into.old.items ++ flat_map
+        (replaced first.index first.negative) letters.now }
     ensures capacity { vec_capacity into.old ≤ vec_capacity into.new }
 {
     for letter in letters {
@@ -76,7 +77,8 @@ fn append_replaced(into: &mut Vec<Letter>, letters: &[Letter], first: Letter)
 
 // The same for one letter.
 fn append_one_replaced(into: &mut Vec<Letter>, letter: Letter, first: Letter)
-    requires { length into.old.items + length (replaced first.index first.negative letter) ≤ vec_capacity into.old }
+    requires { length into.old.items + length (replaced first.index first.negative letter)
+        ≤ vec_capacity into.old }
     ensures items { into.new.items ≡ into.old.items ++ replaced first.index first.negative letter }
     ensures capacity { vec_capacity into.old ≤ vec_capacity into.new }
 {

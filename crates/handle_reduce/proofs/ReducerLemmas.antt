@@ -1,7 +1,7 @@
 -- What one step of a reducer makes of its run.
 --
 -- The premises are the clauses of the calls that the step makes, over plain variables.
-use Rattle.std.proofs.Common.{◌≡◌, ℕ, ◌+◌, ◌<◌, ◌≤◌, List, [], ◌∷◌, ◌++◌, length, Option, Some, None, refl, ap, sym, subst, ◌∙◌, ◌-◌, arith}
+use Rattle.std.proofs.Common.{◌≡◌, ℕ, ◌+◌, ◌<◌, ◌≤◌, List, [], ◌∷◌, ◌++◌, length, Option, Some, refl, ap, sym, ◌∙◌, ◌-◌, arith}
 use Rattle.std.proofs.lemmas.Bool.{lt-ltb, le-ltb}
 use Rattle.braid_word.specs.Words.{Letter}
 use Rattle.handle_find.specs.Handles.{IsHandle, leftmost_of, reduct}
@@ -35,7 +35,8 @@ IsRunAfter-long w present steps handles limit same none long =
 
 -- a word that isn't
 pub IsRunAfter-short
-    : (w present : List Letter) (steps : List (ℕ × ℕ)) (handles limit : ℕ) (found : Option (ℕ × ℕ)) (progress : Progress)
+    : (w present : List Letter) (steps : List (ℕ × ℕ)) (handles limit : ℕ) (found : Option (ℕ × ℕ))
+    (progress : Progress)
     → present ≡ w
     → steps ≡ []
     → length present ≤ limit
@@ -58,22 +59,10 @@ pub goes_on
 goes_on r handles limit now steps present view running =
     ap (λ (s : LimitedRun). s.run.progress) view ∙ running
 
--- with no handle left nothing changes
-pub turned-none
-    : (r : LimitedRun) (handles limit : ℕ) (now : Progress) (steps : List (ℕ × ℕ)) (present : List Letter) (found : Option (ℕ × ℕ))
-    → seen handles limit now steps present ≡ r
-    → r.run.progress ≡ Running
-    → found ≡ None
-    → found ≡ leftmost_of present
-    → r ≡ turned r 1
-unfolding turn_of
-turned-none r handles limit now steps present found view running none is =
-    let P : Progress → Type 0 = λ n. seen handles limit n steps present ≡ turned (seen handles limit n steps present) 1 in
-    rw (← view) (subst P (sym (goes_on r handles limit now steps present view running)) (rw (sym is ∙ none) refl))
-
 -- a reduct that is too long isn't taken
 pub turned-long
-    : (r : LimitedRun) (handles limit : ℕ) (now : Progress) (steps : List (ℕ × ℕ)) (present : List Letter) (found : Option (ℕ × ℕ)) (p q : ℕ)
+    : (r : LimitedRun) (handles limit : ℕ) (now : Progress) (steps : List (ℕ × ℕ)) (present : List Letter)
+    (found : Option (ℕ × ℕ)) (p q : ℕ)
     → seen handles limit now steps present ≡ r
     → r.run.progress ≡ Running
     → found ≡ Some (p, q)
@@ -87,7 +76,8 @@ turned-long r handles limit now steps present found p q view running some is lon
 
 -- any other is
 pub turned-short
-    : (r : LimitedRun) (handles limit : ℕ) (now : Progress) (steps more : List (ℕ × ℕ)) (present next : List Letter) (found later : Option (ℕ × ℕ)) (p q made : ℕ) (progress : Progress)
+    : (r : LimitedRun) (handles limit : ℕ) (now : Progress) (steps more : List (ℕ × ℕ))
+    (present next : List Letter) (found later : Option (ℕ × ℕ)) (p q made : ℕ) (progress : Progress)
     → seen handles limit now steps present ≡ r
     → r.run.progress ≡ Running
     → found ≡ Some (p, q)
@@ -100,9 +90,19 @@ pub turned-short
     → progress ≡ judged handles made next later
     → seen handles limit progress more next ≡ turned r 1
 unfolding turn_of
-turned-short r handles limit now steps more present next found later p q made progress view running some is short written pushed count found_next judgement =
+turned-short r handles limit now steps more present next found later p q made progress view running some is
+    short written pushed count found_next judgement =
     let test = le-ltb limit (length (reduct present p q)) short in
-    rw (← view) (rw (goes_on r handles limit now steps present view running, judgement, found_next, count, written, pushed, sym is ∙ some, test) refl)
+    rw (← view) (rw (
+      goes_on r handles limit now steps present view running,
+      judgement,
+      found_next,
+      count,
+      written,
+      pushed,
+      sym is ∙ some,
+      test,
+    ) refl)
 
 -- ---- What a running reducer knows ----
 
@@ -139,7 +139,8 @@ turned-ended r now t n is few ended =
     let sum : t + (n - t) ≡ n = omega arith in
     let run : now.run ≡ turns r.handles r.limit t r.run = ap (λ (s : LimitedRun). s.run) is in
     let more : turns r.handles r.limit n r.run ≡ now.run
-    = rw sum at (turns-add r.handles r.limit t (n - t) r.run) ∙ rw (← run) (turns-ended r.handles r.limit (n - t) now.run ended) in
+    = rw sum at (turns-add r.handles r.limit t (n - t) r.run)
+    ∙ rw (← run) (turns-ended r.handles r.limit (n - t) now.run ended) in
     is ∙ ap (λ (s : RunState). record r { run = s }) (sym run ∙ sym more)
 
 -- a run that has ended stays as it is
@@ -158,4 +159,5 @@ pub IsRunAfter-turned
     → new ≡ turned old n
     → IsRunAfter w handles limit (t + n) new
 IsRunAfter-turned w handles limit t n old new is more =
-    rw (more, is) (ap (λ (s : RunState). record { handles = handles; limit = limit; run = s }) (run_after-add w handles limit t n (run_after w handles limit t) refl))
+    rw (more, is) (ap (λ (s : RunState). record { handles = handles; limit = limit; run = s })
+    (run_after-add w handles limit t n (run_after w handles limit t) refl))

@@ -9,7 +9,7 @@ use Rattle.braid_word.proofs.EquivalenceLemmas.{on_last, EquivalentOn-trans}
 use Rattle.handle_find.specs.Handles.{IsLeftmost, reduct}
 use Rattle.handle_reduce.specs.Runs.{LimitedRun, run_after, IsRunAfter}
 use Rattle.handle_find.proofs.ReductLemmas.{EquivalentOn-reduct}
-use Rattle.handle_reduce.proofs.RunLemmas.{present-keeps}
+use Rattle.handle_reduce.proofs.KeptByRuns.{present-keeps}
 
 -- a reduct is equivalent to what the present word is equivalent to
 EquivalentOn-next

@@ -3,7 +3,7 @@
 -- Turns of a sum are turns after turns (`turns-add`, `run_after-add`), and a run that has ended
 -- stays (`turns-ended`). How a run stands after t turns is one record (`Stands-run_after`). So a run
 -- isn't running after as many turns as it may make reductions (`run_after-ended`), and what its sign,
--- its steps and its present word are. What each reduction keeps, a run keeps (`present-keeps`).
+-- its steps and its present word are.
 use Rattle.std.proofs.Common.{◌≡◌, ℕ, zero, suc, ◌+◌, ◌-◌, ◌<◌, ◌≤◌, ◌==◌, ltb, Bool, true, false, cond, ◌⊎◌, List, [], ◌∷◌, ◌++◌, length, All, Option, Some, None, refl, sym, ap, ◌∙◌, inl, inr, arith, add-zero, add-suc}
 use Rattle.std.proofs.lemmas.Bool.{eqb-true, eqb-false, lt-ltb, ltb-false, ltb-true, cond_both}
 use Rattle.std.proofs.lemmas.Option.{none-some}
@@ -12,7 +12,7 @@ use Rattle.std.proofs.lemmas.List.Elements.{All-nil, All-push}
 use Rattle.braid_word.specs.Words.{Letter}
 use Rattle.braid_word.specs.Sign.{sign_of}
 use Rattle.braid_word.specs.declared.sign.Sign.{Sign}
-use Rattle.handle_find.specs.Handles.{IsLeftmost, HasNoHandle, leftmost_of, reduct}
+use Rattle.handle_find.specs.Handles.{HasNoHandle, leftmost_of, reduct}
 use Rattle.handle_reduce.specs.Runs.{RunState, judged, begun, reduced, turn_by, turn_of, turns, run_after}
 use Rattle.handle_reduce.specs.declared.progress.Progress.{Progress}
 use Rattle.handle_reduce.specs.declared.progress.Progress.TheVariants.{Running, Done, HandlesMet, LengthMet}
@@ -393,49 +393,3 @@ pub places-steps
     : (w : List Letter) (handles limit t : ℕ)
     → All (HasPlaces limit) (run_after w handles limit t).steps
 places-steps w handles limit t = (Stands-run_after w handles limit t).places
-
--- ---- What each reduction keeps ----
-
-module _
-    (P : List Letter → Type 0)
-    (kept : (v : List Letter) (p q : ℕ) → IsLeftmost v p q → P v → P (reduct v p q)) where
-  -- a turn of a running word
-  reduced-keeps
-      : (handles limit : ℕ) (s : RunState) (o : Option (ℕ × ℕ))
-      → leftmost_of s.present ≡ o
-      → P s.present
-      → P (reduced handles limit s o).present
-  reduced-keeps handles limit s None found holds = holds
-  reduced-keeps handles limit s (Some (p, q)) found holds =
-      cond_both (ltb limit (length (reduct s.present p q))) _ _ (λ (z : RunState). P z.present)
-      (λ _. holds)
-      (λ _. kept s.present p q (leftmost_of-Some s.present p q found) holds)
-
-  -- a turn, by the progress
-  turn_by-keeps
-      : (handles limit : ℕ) (s : RunState) (p : Progress)
-      → P s.present
-      → P (turn_by handles limit s p).present
-  turn_by-keeps handles limit s Running holds =
-      reduced-keeps handles limit s (leftmost_of s.present) refl holds
-  turn_by-keeps handles limit s (Done sign) holds = holds
-  turn_by-keeps handles limit s HandlesMet holds = holds
-  turn_by-keeps handles limit s LengthMet holds = holds
-
-  -- turns
-  turns-keep
-      : (handles limit t : ℕ) (s : RunState)
-      → P s.present
-      → P (turns handles limit t s).present
-  unfolding turn_of
-  turns-keep handles limit zero s holds = holds
-  turns-keep handles limit (suc t) s holds =
-      turn_by-keeps handles limit (turns handles limit t s) _ (turns-keep handles limit t s holds)
-
-  -- what each reduction at a leftmost handle keeps holds of the word that a run has reached
-  pub present-keeps
-      : (w : List Letter) (handles limit t : ℕ)
-      → P w
-      → P (run_after w handles limit t).present
-  unfolding run_after
-  present-keeps w handles limit t holds = turns-keep handles limit t (begun w handles limit) holds

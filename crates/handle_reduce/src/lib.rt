@@ -3,6 +3,7 @@
 
 mod progress;
 mod reducer;
+mod seek;
 #[cfg(test)]
 mod tests;
 

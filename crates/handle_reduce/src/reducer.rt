@@ -1,16 +1,18 @@
-ghost use Rattle.std.specs.Prelude.{◌≡◌, ◌≢◌, ℕ, ◌+◌, ◌≤◌, ◌<◌, List, length, IfOk, IsTrue, ◌↔◌};
+ghost use Rattle.std.specs.Prelude.{◌≡◌, ◌≢◌, ℕ, ◌+◌, ◌≤◌, ◌<◌, List, [], ◌++◌, length, slice_get, Some, None, IfOk, IfNone, IsTrue, ◌↔◌};
 ghost use Rattle.braid_word.specs.Words.{Letter as Signed, IsOn};
 ghost use Rattle.braid_word.specs.Equivalence.{EquivalentOn};
 ghost use Rattle.braid_word.specs.declared.TheConstants.{MAX_LETTERS};
+ghost use Rattle.handle_find.specs.Handles.{leftmost_of};
+ghost use Rattle.handle_find.specs.Scans.{whole, places};
 ghost use Rattle.handle_reduce.specs.declared.TheConstants.{MAX_BOUND};
 ghost use Rattle.handle_reduce.specs.Runs.{IsRunAfter, judged, turned};
 
 use crate::progress::Progress;
-use braid_word::{Account, Letter, Word, sign_of};
-use handle_find::{leftmost, reduct_len, write_reduct};
+use crate::seek::{letter_at, settle};
+use braid_word::{Account, Letter, Word};
+use handle_find::Scan;
 use std::alloc::{AllocError, Global};
 use std::marker::Model;
-use std::mem;
 
 /// A run of handle reductions, advanced by turns.
 ///
@@ -18,10 +20,11 @@ use std::mem;
 /// ends at a word without a handle, or at one of its limits.
 #[derive(Debug, Drop)]
 pub struct Reducer {
-    present: Vec<Letter>,
-    next: Vec<Letter>,
+    // The present word. While the run goes on the first letter to the right of the cursor ends the leftmost
+    // handle, and that begins at `start`.
+    scan: Scan,
+    start: usize,
     steps: Vec<(u32, u32)>,
-    found: Option<(usize, usize)>,
     handles: u32,
     limit: u32,
     progress: Progress,
@@ -29,6 +32,7 @@ pub struct Reducer {
 
 impl Model for Reducer {
     ghost use Rattle.std.specs.Prelude.{vec_capacity};
+    ghost use Rattle.handle_find.specs.Scans.{whole, places};
     ghost use Rattle.handle_reduce.specs.Runs.{LimitedRun};
     ghost use Rattle.handle_reduce.specs.Rooms.{Keeps};
 
@@ -37,24 +41,12 @@ impl Model for Reducer {
     ghost view = { λ r. record {
       handles = r.handles;
       limit = r.limit;
-      run = record { progress = r.progress; steps = r.steps.items; present = r.present.items };
+      run = record { progress = r.progress; steps = r.steps.items; present = whole r.scan };
     } };
 
     ghost invariant = { λ r.
-        Keeps r.progress r.present.items r.steps.items r.found r.handles r.limit
-        (vec_capacity r.present) (vec_capacity r.next) (vec_capacity r.steps) };
-}
-
-// How a run stands that has made this many reductions and has reached a word that isn't too long, with
-// this leftmost handle, if it has one.
-fn judge(found: Option<(usize, usize)>, word: &[Letter], made: u32, handles: u32) -> Progress
-    ensures { result ≡ judged handles made word.now found }
-{
-    match found {
-        None => Progress::Done(sign_of(word)),
-        Some(_) if made == handles => Progress::HandlesMet,
-        Some(_) => Progress::Running,
-    }
+        Keeps r.progress r.scan.left r.scan.right r.steps.items r.start r.handles r.limit
+        (places r.scan) (vec_capacity r.steps) };
 }
 
 // The step that reduces a handle, with its places counted from 1.
@@ -76,28 +68,25 @@ impl Reducer {
         requires limit { limit ≤ MAX_BOUND }
         ensures { IfOk result (λ r. IsRunAfter word handles limit 0 r) }
     {
-        let mut present = word.into_letters();
-        if present.len() > limit as usize {
+        let len = word.letters().len();
+        let room = len.max(limit as usize) + 1;
+        let mut scan = Scan::make(alloc, word.letters(), room)?;
+        if len > limit as usize {
             return Ok(Reducer {
-                present,
-                next: Vec::new(alloc),
+                scan,
+                start: 0,
                 steps: Vec::new(alloc),
-                found: None,
                 handles,
                 limit,
                 progress: Progress::LengthMet,
             });
         }
-        present.reserve(limit as usize - present.len())?;
-        let next = Vec::with_capacity(alloc, limit as usize)?;
         let steps = Vec::with_capacity(alloc, handles as usize)?;
-        let found = leftmost(&present);
-        let progress = judge(found, &present, 0, handles);
+        let (start, progress) = settle(&mut scan, 0, handles);
         Ok(Reducer {
-            present,
-            next,
+            scan,
+            start,
             steps,
-            found,
             handles,
             limit,
             progress,
@@ -113,7 +102,8 @@ impl Reducer {
             → IsRunAfter w handles limit (t + at_most) self.new }
 
         // The present word represents the same braid as the first one, on as few strands.
-        ensures equivalent { (w : List Signed) → (handles limit t n : ℕ) → IsRunAfter w handles limit t self.old
+        ensures equivalent { (w : List Signed) → (handles limit t n : ℕ)
+            → IsRunAfter w handles limit t self.old
             → IsOn n w → EquivalentOn n w self.new.run.present }
         ensures ended { self.old.run.progress ≢ Progress.Running → self.new ≡ self.old }
         ensures progress { result ≡ self.new.run.progress }
@@ -146,25 +136,17 @@ impl Reducer {
         requires { self.old.run.progress ≡ Progress.Running }
         ensures { self.new ≡ turned self.old 1 }
     {
-        let Some((start, end)) = self.found else {
-            return;
-        };
-        if reduct_len(&self.present, start, end) > self.limit as usize {
+        let end = self.scan.left_len();
+        if !self.scan.reduce(self.start, self.limit as usize) {
             self.progress = Progress::LengthMet;
             return;
         }
-        write_reduct(&self.present, start, end, &mut self.next);
-        mem::swap(&mut self.present, &mut self.next);
-        let Ok(()) = self.steps.push(step_at(start, end)) else {
+        let Ok(()) = self.steps.push(step_at(self.start, end)) else {
             unreachable!();
         };
-        self.found = leftmost(&self.present);
-        self.progress = judge(
-            self.found,
-            &self.present,
-            self.steps.len() as u32,
-            self.handles,
-        );
+        let (start, progress) = settle(&mut self.scan, self.steps.len() as u32, self.handles);
+        self.start = start;
+        self.progress = progress;
     }
 }
 
@@ -182,10 +164,10 @@ impl Account for Reducer {
     }
 
     fn current_len(&self) -> u32 {
-        self.present.len() as u32
+        (self.scan.left_len() + self.scan.right_len()) as u32
     }
 
     fn current_at(&self, k: u32) -> Letter {
-        self.present[k as usize]
+        letter_at(&self.scan, k as usize)
     }
 }

@@ -1,6 +1,7 @@
 use crate::progress::Progress::{self, Done, HandlesMet, LengthMet, Running};
 use crate::reducer::Reducer;
 use braid_word::{Account, Letter, Sign, Word};
+use handle_find::{leftmost, reduct};
 use std::alloc::Global;
 use std::process::Abort;
 use std::test::Fail;
@@ -198,6 +199,89 @@ fn turns_are_cut_anywhere(rt: HostRuntime) -> Result<(), Fail> {
         assert_stands(&rt, &run, two_turns, row, 2);
         assert_eq!(rt; run.turn(u32::MAX), end.0, "row {row}");
         assert_stands(&rt, &run, end, row, 5);
+    }
+    Ok(())
+}
+
+// A number below a bound, from a state that goes on.
+fn below(state: &mut u64, bound: u64) -> u64 {
+    *state = state
+        .wrapping_mul(6364136223846793005)
+        .wrapping_add(1442695040888963407);
+    if bound == 0 {
+        0
+    } else {
+        (*state >> 33) % bound
+    }
+}
+
+// The numbers of a word of at most 14 letters on four strands.
+fn random_numbers(alloc: Global, state: &mut u64) -> Result<Vec<i32>, Fail> {
+    let mut numbers = Vec::new(alloc);
+    for _ in 0..below(state, 15) {
+        numbers.push(match below(state, 6) {
+            0 => 1,
+            1 => -1,
+            2 => 2,
+            3 => -2,
+            4 => 3,
+            _ => -3,
+        })?;
+    }
+    Ok(numbers)
+}
+
+// Asserts that a run and reductions of plain words reach the same, one turn after another.
+fn assert_agrees(
+    rt: &impl Abort,
+    alloc: Global,
+    run: &mut Reducer,
+    word: Word,
+    row: usize,
+) -> Result<(), Fail> {
+    let mut word = word;
+    for turn in 0..40 {
+        let Some((start, end)) = leftmost(word.letters()) else {
+            assert!(rt;
+                matches!(run.progress(), Done(_)),
+                "row {row}, {turn} turns"
+            );
+            return Ok(());
+        };
+        assert_eq!(rt; run.progress(), Running, "row {row}, {turn} turns");
+        run.turn(1);
+        word = reduct(alloc, word.letters(), start, end)?;
+        assert!(rt; run.steps_done() == turn + 1, "row {row}, {turn} turns");
+        let (first, last) = run.step_at(turn);
+        assert_eq!(rt;
+            (first as usize, last as usize),
+            (start.saturating_add(1), end.saturating_add(1)),
+            "row {row}, {turn} turns"
+        );
+        assert_eq!(rt;
+            run.current_len() as usize,
+            word.letters().len(),
+            "row {row}, {turn} turns"
+        );
+        for k in 0..run.current_len() {
+            assert_eq!(rt;
+                Some(run.current_at(k)),
+                word.letters().get(k as usize).copied(),
+                "row {row}, {turn} turns, letter {k}"
+            );
+        }
+    }
+    Ok(())
+}
+
+#[test]
+fn runs_agree_with_reductions_of_plain_words(rt: HostRuntime) -> Result<(), Fail> {
+    for row in 0..300_usize {
+        let mut state = row as u64;
+        let numbers = random_numbers(rt.alloc(), &mut state)?;
+        let mut run = begin(&rt, rt.alloc(), &numbers, 1000, 2000)?;
+        let word = word_of(&rt, rt.alloc(), &numbers)?;
+        assert_agrees(&rt, rt.alloc(), &mut run, word, row)?;
     }
     Ok(())
 }

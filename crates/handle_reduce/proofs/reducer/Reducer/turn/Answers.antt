@@ -7,26 +7,33 @@ use Rattle.handle_reduce.proofs.reducer.Reducer.turn.Goals as goal
 
 pub returns-then-not-is_running-clause-turned : goal.returns-then-not-is_running-clause-turned
 returns-then-not-is_running-clause-turned c =
-    turned-ended _ _ c.loop.counter _ c.loop.invariant (omega arith) (λ running. false≢true (c.if-not-is_running.ensures.1 running))
+    turned-ended _ _ c.loop.counter _ c.loop.invariant (omega arith)
+    (λ running. false≢true (c.if-not-is_running.ensures.1 running))
 
 pub returns-then-not-is_running-clause-run : goal.returns-then-not-is_running-clause-run
 returns-then-not-is_running-clause-run c = λ w handles limit t is.
-    IsRunAfter-turned w handles limit t c.args.at_most _ _ is (turned-ended _ _ c.loop.counter _ c.loop.invariant (omega arith) (λ running. false≢true (c.if-not-is_running.ensures.1 running)))
+    IsRunAfter-turned w handles limit t c.args.at_most _ _ is
+    (turned-ended _ _ c.loop.counter _ c.loop.invariant (omega arith)
+    (λ running. false≢true (c.if-not-is_running.ensures.1 running)))
 
 pub returns-then-not-is_running-clause-equivalent : goal.returns-then-not-is_running-clause-equivalent
 returns-then-not-is_running-clause-equivalent c = λ w handles limit t n is.
-    let run = IsRunAfter-turned w handles limit t c.args.at_most _ _ is (turned-ended _ _ c.loop.counter _ c.loop.invariant (omega arith) (λ running. false≢true (c.if-not-is_running.ensures.1 running))) in
+    let run = IsRunAfter-turned w handles limit t c.args.at_most _ _ is
+    (turned-ended _ _ c.loop.counter _ c.loop.invariant (omega arith)
+    (λ running. false≢true (c.if-not-is_running.ensures.1 running))) in
     IsRunAfter-equivalent w handles limit (t + c.args.at_most) n _ run
 
 pub returns-clause-run : goal.returns-clause-run
 returns-clause-run c = λ w handles limit t is.
     let all : c.loop.counter ≡ c.args.at_most = omega arith in
-    IsRunAfter-turned w handles limit t c.args.at_most _ _ is (c.loop.invariant ∙ ap (turned c.args.self.now) all)
+    IsRunAfter-turned w handles limit t c.args.at_most _ _ is
+    (c.loop.invariant ∙ ap (turned c.args.self.now) all)
 
 pub returns-clause-equivalent : goal.returns-clause-equivalent
 returns-clause-equivalent c = λ w handles limit t n is.
     let all : c.loop.counter ≡ c.args.at_most = omega arith in
-    let run = IsRunAfter-turned w handles limit t c.args.at_most _ _ is (c.loop.invariant ∙ ap (turned c.args.self.now) all) in
+    let run = IsRunAfter-turned w handles limit t c.args.at_most _ _ is
+    (c.loop.invariant ∙ ap (turned c.args.self.now) all) in
     IsRunAfter-equivalent w handles limit (t + c.args.at_most) n _ run
 
 pub returns-then-not-is_running-clause-ended : goal.returns-then-not-is_running-clause-ended

@@ -1,0 +1,11 @@
+//! A buffer with a cursor, whose items are put in and taken out at the cursor.
+#![tactic(auto)]
+
+mod buffer;
+#[cfg(test)]
+mod tests;
+
+pub use buffer::GapWord;
+
+/// The most items that a buffer may have room for.
+pub const MAX_ROOM: usize = 1_000_000;

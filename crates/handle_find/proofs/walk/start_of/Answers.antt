@@ -1,0 +1,1 @@
+-- The letter before the higher ones begins the handle or rules one out.
