@@ -36,7 +36,7 @@ distributes-zero N p q full below small =
     ∙ sym (full.full (product N p q) between.within)
     ∙ ap (product N (product N p q)) (sym (product-zero N p below))
 
--- one column more: from the column before, from the row behind q and from the row behind p
+-- one column more: from the column before, from the row after q and from the row after p
 distributes-suc
     : (N p q r : ℕ)
     → p < N
@@ -61,7 +61,7 @@ distributes-suc N p q r below small behind before after =
     product N (product N p q) (product N p (suc r))
     ∎
 
--- the law, by the numbers of rows behind p and behind q, and by the column
+-- the law, by the numbers of rows after p and after q, and by the column
 distributes_by
     : (N k m r p q : ℕ)
     → IsFull N
@@ -86,15 +86,18 @@ distributes_by N (suc k) (suc m) zero p q full enough_p enough_q within_p within
 distributes_by N (suc k) (suc m) (suc r) p q full enough_p enough_q within_p within_q = elim (cases_eq p N) [
   | inl top ↦ subst (λ row. Distributes N row q (suc r)) (sym top) (distributes-top N q (suc r))
   | inr below ↦ elim (cases_eq q N) [
-    | inl top ↦ subst (λ row. Distributes N p row (suc r)) (sym top) (distributes-last N p (suc r) full within_p)
+    | inl top ↦
+        subst (λ row. Distributes N p row (suc r)) (sym top) (distributes-last N p (suc r) full within_p)
     | inr small ↦
         let row = product-between N p q (omega arith) in
         let entry = product-between N p r (omega arith) in
         let behind = product-between N q r (omega arith) in
         distributes-suc N p q r (omega arith) (omega arith)
-        (distributes_by N (suc k) m (suc q) p (product N q r) full enough_p (omega (arith, behind.above)) within_p behind.within)
+        (distributes_by N (suc k) m (suc q) p (product N q r) full enough_p (omega (arith, behind.above))
+        within_p behind.within)
         (distributes_by N (suc k) (suc m) r p q full enough_p enough_q within_p within_q)
-        (distributes_by N k N (suc p) (product N p q) (product N p r) full (omega (arith, row.above)) (omega arith) row.within entry.within)
+        (distributes_by N k N (suc p) (product N p q) (product N p r) full (omega (arith, row.above))
+        (omega arith) row.within entry.within)
   ]
 ]
 

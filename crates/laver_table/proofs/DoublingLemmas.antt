@@ -25,7 +25,7 @@ product-period M p q full below =
 
 -- ---- Rows above M of size 2M ----
 
--- row p + M of size 2M, by the number of rows of size M behind row p
+-- row p + M of size 2M, by the number of rows of size M after row p
 upper_by
     : (M k p q : ℕ)
     → IsFull M
@@ -39,13 +39,18 @@ upper_by M (suc k) p (suc q) full enough below =
     let x = product M p q in
     let between = product-between M p q below in
     let start : product (M + M) (p + M) (suc q) ≡ product (M + M) (x + M) (suc (p + M))
-    = product-suc (M + M) (p + M) q (omega arith) ∙ ap (λ y. product (M + M) y (suc (p + M))) (upper_by M (suc k) p q full enough below) in
+    = product-suc (M + M) (p + M) q (omega arith)
+    ∙ ap (λ y. product (M + M) y (suc (p + M))) (upper_by M (suc k) p q full enough below) in
     let next : product M p (suc q) ≡ product M x (suc p) = product-suc M p q below in
     elim (cases_eq x M) [
       | inl e ↦
-          let goes : product M p (suc q) ≡ suc p = next ∙ ap (λ y. product M y (suc p)) e ∙ product-top M (suc p) in
+          let goes : product M p (suc q) ≡ suc p
+          = next ∙ ap (λ y. product M y (suc p)) e ∙ product-top M (suc p) in
           let there : suc (p + M) ≡ product M p (suc q) + M = omega arith in
-          start ∙ ap (λ y. product (M + M) (y + M) (suc (p + M))) e ∙ product-top (M + M) (suc (p + M)) ∙ there
+          start
+          ∙ ap (λ y. product (M + M) (y + M) (suc (p + M))) e
+          ∙ product-top (M + M) (suc (p + M))
+          ∙ there
       | inr ne ↦
           let small : x < M = omega (arith, between.within) in
           let column : suc (p + M) ≡ suc p + M = omega arith in
@@ -71,7 +76,9 @@ pub product-middle
     → product (M + M) M q ≡ q + M
 product-middle M q full low high =
     let row : M ≡ 0 + M = omega arith in
-    ap (λ p. product (M + M) p q) row ∙ product-upper M 0 q full full.positive ∙ ap (λ x. x + M) (product-of_zero M q low high)
+    ap (λ p. product (M + M) p q) row
+    ∙ product-upper M 0 q full full.positive
+    ∙ ap (λ x. x + M) (product-of_zero M q low high)
 
 -- ---- Rows below M of size 2M ----
 
@@ -79,7 +86,7 @@ product-middle M q full low high =
 abbrev pub Lifts : ℕ → ℕ → ℕ → Type 0
 Lifts M a b = (b ≡ a) ⊎ (b ≡ a + M)
 
--- row p of size 2M, by the number of rows of size M behind it
+-- row p of size 2M, by the number of rows of size M after it
 lower_by
     : (M k p q : ℕ)
     → IsFull M
@@ -93,31 +100,39 @@ lower_by M (suc k) p (suc q) full enough below =
     let x = product M p q in
     let between = product-between M p q below in
     let next : product M p (suc q) ≡ product M x (suc p) = product-suc M p q below in
-    let start : product (M + M) p (suc q) ≡ product (M + M) (product (M + M) p q) (suc p) = product-suc (M + M) p q (omega arith) in
+    let start : product (M + M) p (suc q) ≡ product (M + M) (product (M + M) p q) (suc p)
+    = product-suc (M + M) p q (omega arith) in
     elim (cases_eq x M) [
       | inl top ↦
-          let goes : product M p (suc q) ≡ suc p = next ∙ ap (λ y. product M y (suc p)) top ∙ product-top M (suc p) in
+          let goes : product M p (suc q) ≡ suc p
+          = next ∙ ap (λ y. product M y (suc p)) top ∙ product-top M (suc p) in
           elim (lower_by M (suc k) p q full enough below) [
             | inl same ↦
                 let row : product (M + M) p (suc q) ≡ suc p + M
-                = start ∙ ap (λ y. product (M + M) y (suc p)) (same ∙ top) ∙ product-middle M (suc p) full (omega arith) (omega arith) in
+                = start
+                ∙ ap (λ y. product (M + M) y (suc p)) (same ∙ top)
+                ∙ product-middle M (suc p) full (omega arith) (omega arith) in
                 inr (row ∙ ap (λ y. y + M) (sym goes))
             | inr more ↦
                 let row : product (M + M) p (suc q) ≡ suc p
-                = start ∙ ap (λ y. product (M + M) y (suc p)) (more ∙ ap (λ y. y + M) top) ∙ product-top (M + M) (suc p) in
+                = start
+                ∙ ap (λ y. product (M + M) y (suc p)) (more ∙ ap (λ y. y + M) top)
+                ∙ product-top (M + M) (suc p) in
                 inl (row ∙ sym goes)
           ]
       | inr ne ↦
           let small : x < M = omega (arith, between.within) in
           elim (lower_by M (suc k) p q full enough below) [
             | inl same ↦
-                let row : product (M + M) p (suc q) ≡ product (M + M) x (suc p) = start ∙ ap (λ y. product (M + M) y (suc p)) same in
+                let row : product (M + M) p (suc q) ≡ product (M + M) x (suc p)
+                = start ∙ ap (λ y. product (M + M) y (suc p)) same in
                 elim (lower_by M k x (suc p) full (omega (arith, between.above)) small) [
                   | inl e ↦ inl (row ∙ e ∙ sym next)
                   | inr e ↦ inr (row ∙ e ∙ ap (λ y. y + M) (sym next))
                 ]
             | inr more ↦
-                let row : product (M + M) p (suc q) ≡ product (M + M) (x + M) (suc p) = start ∙ ap (λ y. product (M + M) y (suc p)) more in
+                let row : product (M + M) p (suc q) ≡ product (M + M) (x + M) (suc p)
+                = start ∙ ap (λ y. product (M + M) y (suc p)) more in
                 inr (row ∙ product-upper M x (suc p) full small ∙ ap (λ y. y + M) (sym next))
           ]
     ]
@@ -150,7 +165,9 @@ not_twice M p full below once twice =
           let turn : product (M + M) p (M + j) ≡ product (M + M) p 0 = here ∙ sym start in
           let to_end : M + j + left ≡ M + M = omega arith in
           let rest : product (M + M) p (M + M) ≡ product (M + M) p left
-          = ap (product (M + M) p) (sym to_end) ∙ product-shift (M + M) p (M + j) 0 left (omega arith) turn ∙ ap (product (M + M) p) (omega arith) in
+          = ap (product (M + M) p) (sym to_end)
+          ∙ product-shift (M + M) p (M + j) 0 left (omega arith) turn
+          ∙ ap (product (M + M) p) (omega arith) in
           let alike : product (M + M) p left ≡ product (M + M) p M = sym rest ∙ twice ∙ sym once in
           let whole : left + j ≡ M = omega arith in
           let end : product (M + M) p M ≡ product (M + M) p (M + j)
@@ -175,7 +192,10 @@ lower_full M p full below =
         | inr f ↦
             let turn : product (M + M) p M ≡ product (M + M) p 0
             = f ∙ ap (λ x. x + M) half ∙ sym (product-zero (M + M) p (omega arith)) in
-            product-shift (M + M) p M 0 M (omega arith) turn ∙ ap (product (M + M) p) (omega arith) ∙ f ∙ ap (λ x. x + M) half
+            product-shift (M + M) p M 0 M (omega arith) turn
+            ∙ ap (product (M + M) p) (omega arith)
+            ∙ f
+            ∙ ap (λ x. x + M) half
       ]
     ]
 

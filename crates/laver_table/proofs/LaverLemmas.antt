@@ -3,7 +3,7 @@
 -- With r = 1 the law of distributivity is the equation p * (q + 1) = (p * q) * (p + 1), so a Laver table has
 -- the equations (`IsComputed-laver`); a table that has them is equal to the operation entry by entry, from
 -- row N down.
-use Rattle.std.proofs.Common.{◌≡◌, ℕ, zero, suc, ◌+◌, ◌-◌, ◌^◌, ◌≤◌, inl, inr, List, [], length, get_or, refl, sym, ap, ◌∙◌, subst, arith, slice_index}
+use Rattle.std.proofs.Common.{◌≡◌, ℕ, zero, suc, ◌+◌, ◌-◌, ◌^◌, ◌≤◌, inl, inr, List, [], length, get_or, refl, sym, ap, ◌∙◌, subst, arith}
 use Rattle.std.proofs.lemmas.Bool.{cases_eq}
 use Rattle.std.proofs.lemmas.List.{ext_get_or}
 use Rattle.laver_table.specs.Product.{product, product_rows}
@@ -32,7 +32,9 @@ IsComputed-product_rows N = record {
   square = IsSquare-product_rows N;
   last = λ q (low, high). entry-product_rows N N q (omega arith, omega arith) (low, high) ∙ product-top N q;
   first = λ p low below.
-      entry-product_rows N p 1 (low, omega arith) (omega arith, omega arith) ∙ product-one N p below ∙ omega arith;
+      entry-product_rows N p 1 (low, omega arith) (omega arith, omega arith)
+      ∙ product-one N p below
+      ∙ omega arith;
   next = λ p q low below first above.
       let column : q + 1 ≡ suc q = omega arith in
       let behind : p + 1 ≡ suc p = omega arith in
@@ -57,7 +59,8 @@ IsLaver-product_rows n =
           ∙ entry-product_rows N p (product N q r) row (IsUpTo-product N q r column last)
           ∙ product-distributes N p q r full row.1 column.1
           ∙ sym (entry-entry N p q (product N p r) row column (IsUpTo-product N p r row last))
-          ∙ ap (entry (product_rows N) (entry (product_rows N) p q)) (sym (entry-product_rows N p r row last));
+          ∙ ap (entry (product_rows N) (entry (product_rows N) p q))
+          (sym (entry-product_rows N p r row last));
       first = computed.first;
       last = computed.last 1 (omega arith, full.positive);
     }
@@ -72,9 +75,12 @@ computed-top
     → IsUpTo N q
     → entry rows p q ≡ product N p q
 computed-top N rows p q computed top column =
-    ap (λ row. entry rows row q) top ∙ computed.last q column ∙ sym (product-top N q) ∙ ap (λ row. product N row q) (sym top)
+    ap (λ row. entry rows row q) top
+    ∙ computed.last q column
+    ∙ sym (product-top N q)
+    ∙ ap (λ row. product N row q) (sym top)
 
--- a table with the equations has the entries of the operation, by the number of rows behind
+-- a table with the equations has the entries of the operation, by the number of rows after
 computed_by
     : (N : ℕ) (rows : List (List ℕ)) (k p q : ℕ)
     → IsComputed N rows
@@ -82,7 +88,8 @@ computed_by
     → IsUpTo N p
     → IsUpTo N (suc q)
     → entry rows p (suc q) ≡ product N p (suc q)
-computed_by N rows zero p q computed enough (low, high) column = computed-top N rows p (suc q) computed (omega arith) column
+computed_by N rows zero p q computed enough (low, high) column =
+    computed-top N rows p (suc q) computed (omega arith) column
 computed_by N rows (suc k) p zero computed enough (low, high) column = elim (cases_eq p N) [
   | inl top ↦ computed-top N rows p 1 computed top column
   | inr ne ↦
@@ -97,9 +104,11 @@ computed_by N rows (suc k) p (suc q) computed enough (low, high) (first, last) =
       let between = product-between N p (suc q) (omega arith) in
       let column : suc (suc q) ≡ suc q + 1 = omega arith in
       let behind : p + 1 ≡ suc p = omega arith in
-      let before : entry rows p (suc q) ≡ x = computed_by N rows (suc k) p q computed enough (low, high) (omega arith, omega arith) in
+      let before : entry rows p (suc q) ≡ x
+      = computed_by N rows (suc k) p q computed enough (low, high) (omega arith, omega arith) in
       let here : entry rows x (suc p) ≡ product N x (suc p)
-      = computed_by N rows k x p computed (omega (arith, between.above)) (omega (arith, between.above), between.within) (omega arith, omega arith) in
+      = computed_by N rows k x p computed (omega (arith, between.above))
+      (omega (arith, between.above), between.within) (omega arith, omega arith) in
       ap (entry rows p) column
       ∙ computed.next p (suc q) low (omega arith) (omega arith) (omega arith)
       ∙ ap (λ y. entry rows y (p + 1)) before
@@ -116,7 +125,8 @@ entry-computed
     → IsUpTo N q
     → entry rows p q ≡ product N p q
 entry-computed N rows p zero computed row (low, high) = absurd (omega arith)
-entry-computed N rows p (suc q) computed row column = computed_by N rows N p q computed (omega arith) row column
+entry-computed N rows p (suc q) computed row column =
+    computed_by N rows N p q computed (omega arith) row column
 
 -- an entry by its places, counted from 0
 entry-at
@@ -137,7 +147,8 @@ same_tables
 same_tables N xs ys first second same =
     ext_get_or [] xs ys (first.height ∙ sym second.height) (λ k within.
     let width : length (get_or xs k []) ≡ N = first.widths k [] within in
-    let other : length (get_or ys k []) ≡ N = second.widths k [] (omega (arith, first.height, second.height)) in
+    let other : length (get_or ys k []) ≡ N
+    = second.widths k [] (omega (arith, first.height, second.height)) in
     ext_get_or 0 (get_or xs k []) (get_or ys k []) (width ∙ sym other) (λ j inside.
     sym (entry-at xs k j)
     ∙ same (k + 1) (j + 1) (omega arith, omega (arith, first.height)) (omega arith, omega arith)
@@ -162,7 +173,8 @@ last_row n rows zero laver column = laver.last
 last_row n rows (suc q) laver (low, high) =
     let N = 2 ^ n in
     let column : IsUpTo N (suc q) = (omega arith, omega arith) in
-    let more : entry rows (suc q) 1 ≡ suc (suc q) = laver.first (suc q) (omega arith) (omega arith) ∙ omega arith in
+    let more : entry rows (suc q) 1 ≡ suc (suc q)
+    = laver.first (suc q) (omega arith) (omega arith) ∙ omega arith in
     let before : entry rows N (suc q) ≡ suc q = last_row n rows q laver column in
     let law : entry rows N (entry rows (suc q) 1) ≡ entry rows (entry rows N (suc q)) (entry rows N 1)
     = laver.distributive N (suc q) 1 (omega arith, omega arith) column (omega arith, omega arith) in
@@ -223,7 +235,8 @@ pub IsUpTo-entry
 IsUpTo-entry n rows p q laver row column =
     let square = laver.square in
     let width = width-laver n rows p laver row in
-    let number = square.numbers (p - 1) [] (omega (arith, row.0, row.1)) (q - 1) 0 (omega (arith, column.0, column.1, width)) in
+    let number = square.numbers (p - 1) [] (omega (arith, row.0, row.1)) (q - 1) 0
+    (omega (arith, column.0, column.1, width)) in
     subst (λ N. IsUpTo N (entry rows p q)) (sym square.height) number
 
 -- each row has 2^n in its last column
@@ -237,18 +250,6 @@ full-laver n rows p laver row =
     ap (λ table. entry table p (2 ^ n)) (IsLaver-only n rows laver)
     ∙ entry-product_rows (2 ^ n) p (2 ^ n) row (full.positive, omega arith)
     ∙ full.full p row.1
-
--- the same by the number of rows
-pub last_entry
-    : (n : ℕ) (rows : List (List ℕ)) (p : ℕ)
-    → IsLaver n rows
-    → IsUpTo (length rows) p
-    → slice_index (row_of rows p) (length rows - 1) ≡ length rows
-last_entry n rows p laver row =
-    let size = length-laver n rows laver in
-    ap (λ m. slice_index (row_of rows p) (m - 1)) size
-    ∙ full-laver n rows p laver (subst (λ m. IsUpTo m p) size row)
-    ∙ sym size
 
 -- each entry of a row but the last is above the number of its row
 pub ExceedsRows-laver : (n : ℕ) (rows : List (List ℕ)) → IsLaver n rows → ExceedsRows (2 ^ n) rows

@@ -5,9 +5,12 @@ pub mod DoublingLemmas
 pub mod DistributiveLemmas
 pub mod RowLemmas
 pub mod LaverLemmas
-pub mod HeldLemmas
 pub mod PeriodLemmas
 pub mod ThresholdLemmas
+pub mod WalkLemmas
+pub mod ColumnLemmas
+pub mod LevelLemmas
 pub mod FormLemmas
+pub mod HeldLemmas
 pub mod TextLemmas
 pub mod LimitFacts

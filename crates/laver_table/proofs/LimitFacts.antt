@@ -2,6 +2,6 @@
 use Rattle.std.proofs.Common.{◌≡◌, refl}
 use Rattle.laver_table.specs.declared.TheConstants.{MAX_EXPONENT}
 
--- a table has a size of at most 2^10
-exponent_row : MAX_EXPONENT ≡ 10
+-- a table has a size of at most 2^14
+exponent_row : MAX_EXPONENT ≡ 14
 exponent_row = refl

@@ -1,9 +1,9 @@
 -- Periods: the entries of a row rise up to N, and the row repeats them.
 --
--- The period of a row is the first column that has N. Before it the entries rise (`period-rises`), so they are
--- different, and behind it they begin again (`repeats-period`): so it is the number of different entries of
--- the row (`distinct_count-row`).
-use Rattle.std.proofs.Common.{◌≡◌, ◌≢◌, ℕ, zero, suc, ◌+◌, ◌-◌, ◌<◌, ◌≤◌, ◌⊎◌, inl, inr, Bool, true, false, List, length, get_or, AllPairs, refl, sym, ap, ◌∙◌, subst, nat_eq, arith}
+-- The period of a row is the first column that has N. Before it the entries rise (`period-rises`), so they
+-- are different, and after it they begin again (`repeats-period`): so it is the number of different entries
+-- of the row (`distinct_count-row`).
+use Rattle.std.proofs.Common.{◌≡◌, ◌≢◌, ℕ, zero, suc, ◌+◌, ◌-◌, ◌<◌, ◌≤◌, ◌⊎◌, inl, inr, Bool, true, false, List, length, map, get_or, AllPairs, refl, sym, ap, ◌∙◌, subst, nat_eq, arith}
 use Rattle.std.proofs.lemmas.Bool.{cases_eq, cases_lt}
 use Rattle.std.proofs.lemmas.List.Folds.{Any-from_list_any, list_any_at}
 use Rattle.std.proofs.lemmas.List.FromFn.{length-map-range_with_len, get_or-map-range_with_len}
@@ -14,10 +14,10 @@ use Rattle.std.specs.Cmp.{unsigned_Decides}
 use Rattle.std.specs.List.{list_any}
 use Rattle.std.specs.Set.{distinct_count}
 use Rattle.laver_table.specs.Product.{product, product_row}
-use Rattle.laver_table.specs.Period.{IsFull, IsPeriod}
+use Rattle.laver_table.specs.Period.{IsFull, IsPeriod, IsInPeriod}
 use Rattle.laver_table.proofs.ProductLemmas.{product-between, product-top, product-zero, product-shift, product-rises}
 use Rattle.laver_table.proofs.RowLemmas.{length-product_row, get_or-product_row}
-use Rattle.laver_table.proofs.HeldLemmas.{row_front}
+use Rattle.std.specs.List.{range_with_len}
 
 -- ---- One period of a row ----
 
@@ -77,6 +77,13 @@ IsPeriod-unique N p o c first second = elim (cases_lt o c) [
   ]
 ]
 
+-- a column up to the period is one of the first period
+pub IsInPeriod-up_to : (N p o c : ℕ) → IsPeriod N p o → 1 ≤ c → c ≤ o → IsInPeriod N p c
+IsInPeriod-up_to N p o c period first last = record {
+  positive = first;
+  within = λ other found. omega (arith, IsPeriod-unique N p o other period found);
+}
+
 -- the columns of a row after its period are as those before
 pub repeats-period
     : (N p o q : ℕ)
@@ -99,7 +106,15 @@ period_by N p zero row column = inl (λ q low high. absurd (omega arith))
 period_by N p (suc k) row column = elim (period_by N p k row (omega arith)) [
   | inr found ↦ inr found
   | inl none ↦ elim (cases_eq (product N p (suc k)) N) [
-    | inl e ↦ inr (suc k, record { positive = omega arith; within = column; full = e; short = λ q low below. none q low (omega arith) })
+    | inl e ↦ inr (
+      suc k,
+      record {
+        positive = omega arith;
+        within = column;
+        full = e;
+        short = λ q low below. none q low (omega arith);
+      },
+    )
     | inr ne ↦
         let here = product-within N p (suc k) row column in
         inl (λ q low high. elim (cases_eq q (suc k)) [
@@ -116,7 +131,17 @@ IsPeriod-exists N p full row = elim (period_by N p N row (omega arith)) [
   | inl none ↦ absurd (omega (arith, none N full.positive (omega arith), full.full p row))
 ]
 
+-- a column of the first period is one of the table
+pub IsInPeriod-within : (N p c : ℕ) → IsFull N → p ≤ N → IsInPeriod N p c → c ≤ N
+IsInPeriod-within N p c full row column =
+    let (o, period) = IsPeriod-exists N p full row in
+    omega (arith, column.within o period, period.within)
+
 -- ---- The number of different entries ----
+
+-- The entries of row p up to its period.
+abbrev one_period : ℕ → ℕ → ℕ → List ℕ
+one_period N p o = map (product N p) (range_with_len 1 o)
 
 -- a column within one period has the entry of each column
 column_in_period
@@ -147,7 +172,8 @@ column_up_to
 column_up_to N p o q period row low high = elim (cases_eq p N) [
   | inr ne ↦ column_in_period N p o q q period (omega arith) (omega arith) low
   | inl top ↦
-      let whole : o ≡ N = IsPeriod-unique N N o N (subst (λ r. IsPeriod N r o) top period) (IsPeriod-top N (omega arith)) in
+      let here = subst (λ r. IsPeriod N r o) top period in
+      let whole : o ≡ N = IsPeriod-unique N N o N here (IsPeriod-top N (omega arith)) in
       (q, low, omega arith, refl)
 ]
 
@@ -173,15 +199,16 @@ any_covered test xs ys covers some =
 get_or-one_period
     : (N p o k d : ℕ)
     → k < o
-    → get_or (row_front N p o) k d ≡ product N p (k + 1)
-get_or-one_period N p o k d within = get_or-map-range_with_len (product N p) 1 o k (k + 1) d within (omega arith)
+    → get_or (one_period N p o) k d ≡ product N p (k + 1)
+get_or-one_period N p o k d within =
+    get_or-map-range_with_len (product N p) 1 o k (k + 1) d within (omega arith)
 
 -- they are different
 one_period-apart
     : (N p o : ℕ)
     → IsPeriod N p o
     → p ≤ N
-    → AllPairs (λ x y. x ≢ y) (row_front N p o)
+    → AllPairs (λ x y. x ≢ y) (one_period N p o)
 one_period-apart N p o period row i j d before within =
     let inside : j < o = omega (arith, length-map-range_with_len (product N p) 1 o) in
     let later : j + 1 ≡ i + 1 + suc (j - suc i) = omega arith in
@@ -194,12 +221,15 @@ one_period-apart N p o period row i j d before within =
 period_in_row
     : (N p o k : ℕ)
     → IsPeriod N p o
-    → k < length (row_front N p o)
-    → (j : ℕ) × (j < length (product_row N p)) × (get_or (row_front N p o) k 0 ≡ get_or (product_row N p) j 0)
+    → k < length (one_period N p o)
+    → (j : ℕ)
+    × (j < length (product_row N p))
+    × (get_or (one_period N p o) k 0 ≡ get_or (product_row N p) j 0)
 period_in_row N p o k period within =
     let inside : k < o = omega (arith, length-map-range_with_len (product N p) 1 o) in
     let wide : k < N = omega (arith, period.within) in
-    (k, omega (arith, length-product_row N p), get_or-one_period N p o k 0 inside ∙ sym (get_or-product_row N p k 0 wide))
+    let same = get_or-one_period N p o k 0 inside ∙ sym (get_or-product_row N p k 0 wide) in
+    (k, omega (arith, length-product_row N p), same)
 
 -- each entry of the row is one of them
 row_in_period
@@ -207,7 +237,9 @@ row_in_period
     → IsPeriod N p o
     → p ≤ N
     → k < length (product_row N p)
-    → (j : ℕ) × (j < length (row_front N p o)) × (get_or (product_row N p) k 0 ≡ get_or (row_front N p o) j 0)
+    → (j : ℕ)
+    × (j < length (one_period N p o))
+    × (get_or (product_row N p) k 0 ≡ get_or (one_period N p o) j 0)
 row_in_period N p o k period row within =
     let inside : k < N = omega (arith, length-product_row N p) in
     let (c, first, last, same) = column_up_to N p o (k + 1) period row (omega arith) (omega arith) in
@@ -215,7 +247,10 @@ row_in_period N p o k period row within =
     let there : c - 1 < o = omega arith in (
       c - 1,
       omega (arith, length-map-range_with_len (product N p) 1 o),
-      get_or-product_row N p k 0 inside ∙ same ∙ ap (product N p) back ∙ sym (get_or-one_period N p o (c - 1) 0 there),
+      get_or-product_row N p k 0 inside
+          ∙ same
+          ∙ ap (product N p) back
+          ∙ sym (get_or-one_period N p o (c - 1) 0 there),
     )
 
 -- the number of different entries of a row is its period
@@ -225,7 +260,7 @@ pub distinct_count-row
     → p ≤ N
     → distinct_count nat_eq (product_row N p) ≡ o
 distinct_count-row N p o period row =
-    let ns = row_front N p o in
+    let ns = one_period N p o in
     let xs = product_row N p in
     let apart = IsDistinct-from_AllPairs unsigned_Decides ns (one_period-apart N p o period row) in
     let alike = λ (q : ℕ). same_tests (list_any (nat_eq q) ns) (list_any (nat_eq q) xs)

@@ -1,6 +1,6 @@
 -- Worked rows of the operation of Laver tables.
 use Rattle.std.proofs.Common.{◌≡◌, [], ◌∷◌, refl}
-use Rattle.laver_table.specs.Product.{product_within, product, product_row, product_rows, rows_from_last}
+use Rattle.laver_table.specs.Product.{product_within, product, product_row, product_rows}
 
 -- the table of size 1
 size_1_rows : product_rows 1 ≡ (1 ∷ []) ∷ []
@@ -14,11 +14,6 @@ size_4_rows
     ∷ ((3 ∷ 4 ∷ 3 ∷ 4 ∷ []) ∷ ((4 ∷ 4 ∷ 4 ∷ 4 ∷ []) ∷ ((1 ∷ 2 ∷ 3 ∷ 4 ∷ []) ∷ [])))
 unfolding product_within product product_row product_rows
 size_4_rows = refl
-
--- the last two rows of size 4, the last one first
-size_4_last : rows_from_last 4 2 ≡ (1 ∷ 2 ∷ 3 ∷ 4 ∷ []) ∷ ((4 ∷ 4 ∷ 4 ∷ 4 ∷ []) ∷ [])
-unfolding product_within product product_row rows_from_last
-size_4_last = refl
 
 -- rows 1 to 8 of size 8
 size_8_row_1 : product_row 8 1 ≡ 2 ∷ 4 ∷ 6 ∷ 8 ∷ 2 ∷ 4 ∷ 6 ∷ 8 ∷ []

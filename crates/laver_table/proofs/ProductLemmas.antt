@@ -1,6 +1,6 @@
 -- Laws of the operation of Laver tables, for a table of any size.
 --
--- That p * (q + 1) = (p * q) * (p + 1) needs p < p * q <= N, since p * q is computed from the rows behind row
+-- That p * (q + 1) = (p * q) * (p + 1) needs p < p * q <= N, since p * q is computed from the rows after row
 -- p alone. So the two are shown together: `product-between` and `product-suc`. In a row p below N the entries
 -- rise up to N and begin again from there (`product-rises`, `product-shift`).
 use Rattle.std.proofs.Common.{◌≡◌, ◌≢◌, ℕ, zero, suc, ◌+◌, ◌-◌, ◌<◌, ◌≤◌, ◌⊎◌, inl, inr, refl, sym, ap, ◌∙◌, eq-eqb, arith, add-zero, add-suc}
@@ -15,7 +15,7 @@ iterate-suc : {A : Type 0} (f : A → A) (n : ℕ) (x : A) → iterate f (suc n)
 iterate-suc f zero x = refl
 iterate-suc f (suc n) x = iterate-suc f n (f x)
 
--- row N - depth is computed from the rows behind it
+-- row N - depth is computed from the rows after it
 within-here
     : (N d p q : ℕ)
     → p + suc d ≡ N
@@ -53,7 +53,8 @@ within-product
     → product_within N d p q ≡ product N p q
 unfolding product
 within-product N d p q row deep =
-    within-deeper N (N - p) d p q (omega arith) (omega arith) ∙ sym (within-deeper N (N - p) N p q (omega arith) (omega arith))
+    within-deeper N (N - p) d p q (omega arith) (omega arith)
+    ∙ sym (within-deeper N (N - p) N p q (omega arith) (omega arith))
 
 -- ---- The equations ----
 
@@ -74,7 +75,7 @@ product-orbit N d p q here =
 pub product-zero : (N p : ℕ) → p < N → product N p 0 ≡ N
 product-zero N p below = product-orbit N (N - suc p) p 0 (omega arith)
 
--- the next entry, where this one is in a row behind
+-- the next entry, where this one is in a row after
 product-suc_if
     : (N p q : ℕ)
     → p < N
@@ -95,7 +96,7 @@ pub record Between (low high x : ℕ) : Type 0 where
   pub above : low < x
   pub within : x ≤ high
 
--- the entries of a row below N are behind it, by the number of rows behind
+-- the entries of a row below N are after it, by the number of rows after
 between_by : (N k p q : ℕ) → N ≤ p + k → p < N → Between p N (product N p q)
 between_by N zero p q enough below = absurd (omega arith)
 between_by N (suc k) p zero enough below =
@@ -106,10 +107,12 @@ between_by N (suc k) p (suc q) enough below =
     let next = product-suc_if N p q below here.above here.within in
     elim (cases_eq (product N p q) N) [
       | inl e ↦
-          let again : product N p (suc q) ≡ suc p = next ∙ ap (λ x. product N x (suc p)) e ∙ product-top N (suc p) in
+          let again : product N p (suc q) ≡ suc p
+          = next ∙ ap (λ x. product N x (suc p)) e ∙ product-top N (suc p) in
           record { above = omega arith; within = omega arith }
       | inr ne ↦
-          let there = between_by N k (product N p q) (suc p) (omega (arith, here.above)) (omega (arith, here.within)) in
+          let there = between_by N k (product N p q) (suc p)
+          (omega (arith, here.above)) (omega (arith, here.within)) in
           record { above = omega (arith, here.above, there.above); within = omega (arith, there.within) }
     ]
 
@@ -158,7 +161,10 @@ pub product-shift
     → product N p (a + k) ≡ product N p (b + k)
 product-shift N p a b zero below same = rw (add-zero a, add-zero b) same
 product-shift N p a b (suc k) below same =
-    rw (add-suc a k, add-suc b k) (product-suc N p (a + k) below ∙ ap (λ x. product N x (suc p)) (product-shift N p a b k below same) ∙ sym (product-suc N p (b + k) below))
+    let before = product-shift N p a b k below same in
+    rw (add-suc a k, add-suc b k) (product-suc N p (a + k) below
+    ∙ ap (λ x. product N x (suc p)) before
+    ∙ sym (product-suc N p (b + k) below))
 
 -- in k columns an entry grows by k, or N comes before
 pub product-climbs

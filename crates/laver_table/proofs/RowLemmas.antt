@@ -24,7 +24,8 @@ pub get_or-product_row
     → k < N
     → get_or (product_row N p) k d ≡ product N p (k + 1)
 unfolding product_row
-get_or-product_row N p k d within = get_or-map-range_with_len (product N p) 1 N k (k + 1) d within (omega arith)
+get_or-product_row N p k d within =
+    get_or-map-range_with_len (product N p) 1 N k (k + 1) d within (omega arith)
 
 -- a row, found at its place
 pub get_or-product_rows
@@ -32,7 +33,8 @@ pub get_or-product_rows
     → k < N
     → get_or (product_rows N) k d ≡ product_row N (k + 1)
 unfolding product_rows
-get_or-product_rows N k d within = get_or-map-range_with_len (product_row N) 1 N k (k + 1) d within (omega arith)
+get_or-product_rows N k d within =
+    get_or-map-range_with_len (product_row N) 1 N k (k + 1) d within (omega arith)
 
 -- row p
 pub row_of-product_rows : (N p : ℕ) → IsUpTo N p → row_of (product_rows N) p ≡ product_row N p
@@ -55,7 +57,9 @@ entry-product_rows N p q row (low, high) =
 -- an entry is a number from 1 to N
 pub IsUpTo-product : (N p q : ℕ) → IsUpTo N p → IsUpTo N q → IsUpTo N (product N p q)
 IsUpTo-product N p q (low, high) column = elim (cases_eq p N) [
-  | inl top ↦ subst (λ row. IsUpTo N (product N row q)) (sym top) (subst (IsUpTo N) (sym (product-top N q)) column)
+  | inl top ↦
+      let here = subst (IsUpTo N) (sym (product-top N q)) column in
+      subst (λ row. IsUpTo N (product N row q)) (sym top) here
   | inr ne ↦
       let between = product-between N p q (omega arith) in
       (omega (arith, between.above), between.within)
@@ -65,7 +69,8 @@ IsUpTo-product N p q (low, high) column = elim (cases_eq p N) [
 All-product_row : (N p : ℕ) → IsUpTo N p → All (IsUpTo N) (product_row N p)
 All-product_row N p row k d within =
     let inside : k < N = omega (arith, length-product_row N p) in
-    subst (IsUpTo N) (sym (get_or-product_row N p k d inside)) (IsUpTo-product N p (k + 1) row (omega arith, omega arith))
+    subst (IsUpTo N) (sym (get_or-product_row N p k d inside))
+    (IsUpTo-product N p (k + 1) row (omega arith, omega arith))
 
 -- the rows are a square of numbers from 1 to N
 pub IsSquare-product_rows : (N : ℕ) → IsSquare N (product_rows N)
@@ -76,7 +81,8 @@ IsSquare-product_rows N = record {
       ap length (get_or-product_rows N k d inside) ∙ length-product_row N (k + 1);
   numbers = λ k d within.
       let inside : k < N = omega (arith, length-product_rows N) in
-      subst (All (IsUpTo N)) (sym (get_or-product_rows N k d inside)) (All-product_row N (k + 1) (omega arith, omega arith));
+      subst (All (IsUpTo N)) (sym (get_or-product_rows N k d inside))
+      (All-product_row N (k + 1) (omega arith, omega arith));
 }
 
 -- each entry of a row below N is above the row's number

@@ -12,7 +12,7 @@ use Rattle.laver_table.specs.TableText.{row_line}
 
 -- ---- A row ----
 
--- an entry behind the first one
+-- an entry after the first one
 pub later_entry
     : (row : List ℕ) (k x : ℕ)
     → k + 1 < length row
@@ -24,7 +24,7 @@ later_entry row k x within is =
     slice_get_read (drop 1 row) (length (drop 1 row)) k x refl (omega (arith, length-drop 1 row))
     (here ∙ sym (get_or_default_zero row (1 + k) x (omega arith)) ∙ sym (get_or_after_one row k x))
 
--- a line is its first entry, the others, each behind a space, and LF
+-- a line is its first entry, the others, each after a space, and LF
 pub row_line-parts
     : (row : List ℕ) (x : ℕ)
     → 1 ≤ length row
@@ -33,9 +33,10 @@ pub row_line-parts
 unfolding row_line
 row_line-parts row x some is =
     let first : x ≡ get_or row 0 x = is ∙ sym (get_or_default_zero row 0 x some) in
-    ap (λ text. text ++ 10 ∷ []) (join-first decimal row x some first ∙ ap (λ rest. decimal x ++ flat_map spaced_number rest) (take_rest row 1))
+    let rest = ap (λ later. decimal x ++ flat_map spaced_number later) (take_rest row 1) in
+    ap (λ text. text ++ 10 ∷ []) (join-first decimal row x some first ∙ rest)
 
--- an entry behind the first one, in a row of a Laver table
+-- an entry after the first one, in a row of a Laver table
 pub found_entry
     : (n : ℕ) (table : List (List ℕ)) (p k x : ℕ)
     → IsLaver n table

@@ -28,7 +28,7 @@ lifts M p q full row low high = elim (cases_eq p M) [
 ]
 
 -- no entry from row 0 and column 1 on is 0
-product-positive : (N p q : ℕ) → p ≤ N → 1 ≤ q → 1 ≤ product N p q
+pub product-positive : (N p q : ℕ) → p ≤ N → 1 ≤ q → 1 ≤ product N p q
 product-positive N p q row low = elim (cases_eq p N) [
   | inl top ↦ rw top (omega (arith, product-top N q))
   | inr ne ↦ let between = product-between N p q (omega arith) in omega (arith, between.above)
@@ -103,8 +103,14 @@ threshold_by
     → p ≤ M
     → k ≤ o
     → (t : ℕ) × IsThreshold M p k t
-threshold_by M p o zero full period row within =
-    (0, record { within = omega arith; low = λ q first last. absurd (omega arith); high = λ q above last. absurd (omega arith) })
+threshold_by M p o zero full period row within = (
+  0,
+  record {
+    within = omega arith;
+    low = λ q first last. absurd (omega arith);
+    high = λ q above last. absurd (omega arith);
+  },
+)
 threshold_by M p o (suc k) full period row within =
     let (t, threshold) = threshold_by M p o k full period row (omega arith) in
     threshold-more M p o k t full period row within threshold
@@ -176,9 +182,11 @@ second-next M p o q full period below low high =
     let rises = product-rises (M + M) p (o + q) (omega arith) high in
     let column : o + suc q ≡ suc (o + q) = omega arith in
     let back : o + suc q ≡ suc q + o = omega arith in
-    let again : product M p (o + suc q) ≡ product M p (suc q) = ap (product M p) back ∙ repeats-period M p o (suc q) period below in
+    let again : product M p (o + suc q) ≡ product M p (suc q)
+    = ap (product M p) back ∙ repeats-period M p o (suc q) period below in
     let between = product-between M p (suc q) below in
-    let next : product (M + M) p (o + suc q) ≡ product (M + M) p (suc (o + q)) = ap (product (M + M) p) column in
+    let next : product (M + M) p (o + suc q) ≡ product (M + M) p (suc (o + q))
+    = ap (product (M + M) p) column in
     elim (product-lower M p (o + suc q) full below) [
       | inl same ↦ absurd (omega (arith, same, again, between.within, next, rises, low))
       | inr more ↦ more ∙ ap (λ x. x + M) again
@@ -216,13 +224,17 @@ IsPeriod-twice M p o full period below threshold = record {
   within = omega (arith, period.within);
   full =
       let last : suc (o - 1) ≡ o = omega (arith, period.positive) in
-      subst (λ c. product (M + M) p (o + c) ≡ product M p c + M) last (second-half M p o (o - 1) full period below threshold (omega (arith, period.positive)))
+      let half = second-half M p o (o - 1) full period below threshold (omega (arith, period.positive)) in
+      subst (λ c. product (M + M) p (o + c) ≡ product M p c + M) last half
       ∙ ap (λ x. x + M) period.full;
   short = λ q low before. elim (cases_lt o q) [
-    | inr first ↦ omega (arith, threshold.low q low first, product-within M p q (omega arith) (omega (arith, period.within)), full.positive)
+    | inr first ↦
+        let bound = product-within M p q (omega arith) (omega (arith, period.within)) in
+        omega (arith, threshold.low q low first, bound, full.positive)
     | inl past ↦
         let column : o + suc (q - suc o) ≡ q = omega arith in
-        let there = subst (λ c. product (M + M) p c ≡ product M p (suc (q - suc o)) + M) column (second-half M p o (q - suc o) full period below threshold (omega arith)) in
+        let half = second-half M p o (q - suc o) full period below threshold (omega arith) in
+        let there = subst (λ c. product (M + M) p c ≡ product M p (suc (q - suc o)) + M) column half in
         let small = period.short (suc (q - suc o)) (omega arith) (omega arith) in
         omega (arith, there, small)
   ];

@@ -34,10 +34,11 @@ pub record LiftsRow (M : ℕ) (small large : List (List ℕ)) (p period threshol
   pub high : (q : ℕ) → threshold < q → q ≤ period → entry large p q ≡ entry small p q + M
   pub kept : threshold < period → period_of large p ≡ period
   pub twice : threshold ≡ period → period_of large p ≡ period + period
-  pub second : threshold ≡ period → (q : ℕ) → 1 ≤ q → q ≤ period → entry large p (period + q) ≡ entry small p q + M
+  pub second : threshold ≡ period → (q : ℕ) → 1 ≤ q → q ≤ period
+      → entry large p (period + q) ≡ entry small p q + M
   pub zero : threshold ≡ 0 ↔ p ≡ M
 
--- Each row up to M has a threshold. Behind row M come the rows of size M with M added, up to the last row,
+-- Each row up to M has a threshold. After row M come the rows of size M with M added, up to the last row,
 -- which gives each number back. The table is periodic, so its first periods give all of it.
 pub record Doubles (M : ℕ) (small large : List (List ℕ)) : Type 0 where
   pub lower : (p : ℕ) → IsUpTo M p → (threshold : ℕ) × LiftsRow M small large p (period_of small p) threshold

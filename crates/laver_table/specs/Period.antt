@@ -4,6 +4,7 @@
 --
 --   IsFull N                     column N has N in every row
 --   IsPeriod N p period          row p first reaches N at column `period`
+--   IsInPeriod N p column        the column is one of the first period of row p
 --   IsThreshold M p period t     up to column t, row p of size 2M is that of size M, and up to `period`
 --                                that of size M with M added
 use Rattle.std.specs.Prelude.{◌≡◌, ℕ, ◌+◌, ◌<◌, ◌≤◌}
@@ -20,6 +21,11 @@ pub record IsPeriod (N p period : ℕ) : Type 0 where
   pub within : period ≤ N
   pub full : product N p period ≡ N
   pub short : (q : ℕ) → 1 ≤ q → q < period → product N p q < N
+
+-- One of the columns of row p up to its period.
+pub record IsInPeriod (N p column : ℕ) : Type 0 where
+  pub positive : 1 ≤ column
+  pub within : (period : ℕ) → IsPeriod N p period → column ≤ period
 
 -- Where the entries of row p begin to be those of size M with M added.
 pub record IsThreshold (M p period threshold : ℕ) : Type 0 where

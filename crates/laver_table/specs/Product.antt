@@ -1,7 +1,7 @@
 -- The operation of Laver tables, computed from the last row down.
 --
 -- The table of size N is a product on the numbers 1 to N. Row N gives each q back. A row p below N is
--- computed from the rows behind it: p * 1 = p + 1, and p * (q + 1) = (p * q) * (p + 1). With a column 0 whose
+-- computed from the rows after it: p * 1 = p + 1, and p * (q + 1) = (p * q) * (p + 1). With a column 0 whose
 -- entries are N it is one orbit, since N * (p + 1) = p + 1: p * q is what N becomes where x to x * (p + 1) is
 -- applied q times. Here q may be any number, and p may be 0: row 0 is as row N from column 1 to column N.
 -- Source: R. Laver, On the algebra of elementary embeddings of a rank into itself, 1995; P. Dehornoy, Braids
@@ -11,8 +11,7 @@
 --   product N p q                p * q in the table of size N
 --   product_row N p              row p
 --   product_rows N               all rows, from the first on
---   rows_from_last N count       the last rows, the last one first
-use Rattle.std.specs.Prelude.{ℕ, zero, suc, ◌+◌, ◌-◌, ◌==◌, if◌then◌else◌, List, map}
+use Rattle.std.specs.Prelude.{ℕ, zero, suc, ◌+◌, ◌==◌, if◌then◌else◌, List, map}
 use Rattle.std.specs.Fn.{iterate}
 use Rattle.std.specs.List.{range_with_len}
 
@@ -34,7 +33,3 @@ product_row N p = map (product N p) (range_with_len 1 N)
 -- The rows from 1 to N.
 unfoldable pub product_rows : ℕ → List (List ℕ)
 product_rows N = map (product_row N) (range_with_len 1 N)
-
--- The last rows, from row N down, this many. No public clause cites it.
-unfoldable pub rows_from_last : ℕ → ℕ → List (List ℕ)
-rows_from_last N count = map (λ i. product_row N (N - i)) (range_with_len 0 count)

@@ -46,7 +46,8 @@ pub record IsComputed (N : ℕ) (rows : List (List ℕ)) : Type 0 where
   pub square : IsSquare N rows
   pub last : (q : ℕ) → IsUpTo N q → entry rows N q ≡ q
   pub first : (p : ℕ) → 1 ≤ p → p < N → entry rows p 1 ≡ p + 1
-  pub next : (p q : ℕ) → 1 ≤ p → p < N → 1 ≤ q → q < N → entry rows p (q + 1) ≡ entry rows (entry rows p q) (p + 1)
+  pub next : (p q : ℕ) → 1 ≤ p → p < N → 1 ≤ q → q < N
+      → entry rows p (q + 1) ≡ entry rows (entry rows p q) (p + 1)
 
 -- Each entry of a row p below N is above p.
 abbrev pub ExceedsRows : ℕ → List (List ℕ) → Type 0

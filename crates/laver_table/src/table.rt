@@ -1,31 +1,34 @@
 ghost use Rattle.std.specs.Prelude.{◌≡◌, ℕ, ◌+◌, ◌^◌, ◌≤◌, List, IfOk, length};
-ghost use Rattle.laver_table.specs.Table.{row_of, entry, IsUpTo, IsLaver, IsComputed, ExceedsRows};
+ghost use Rattle.laver_table.specs.Table.{entry, IsUpTo, IsLaver, IsComputed, ExceedsRows};
 ghost use Rattle.laver_table.specs.Form.{period_of, IsPeriodic};
 ghost use Rattle.laver_table.specs.declared.TheConstants.{MAX_EXPONENT};
 
-use crate::rows::{first_full, rows_from_last};
+use crate::growth::levels_of;
+use crate::levels::{Doubling, period_in, product_in, table_size};
 use std::alloc::{AllocError, Global};
 use std::marker::Model;
 use std::sync::ledger::Ledger;
 use wb_base::Steps;
 
-/// A Laver table, the list of its rows, with all its entries.
+/// A Laver table, the list of its rows.
+///
+/// Of each row of each smaller size it keeps the period and the threshold, and no entry.
 #[derive(Debug, Drop)]
 pub struct Table {
-    exponent: u32,
-    from_last: Vec<Vec<u32>>,
+    levels: Vec<Vec<Doubling>>,
 }
 
 impl Model for Table {
-    ghost use Rattle.std.specs.Prelude.{◌≡◌, ℕ, ◌^◌, ◌≤◌, List, map, reverse, vec_items};
-    ghost use Rattle.laver_table.specs.Product.{rows_from_last};
+    ghost use Rattle.std.specs.Prelude.{ℕ, ◌^◌, ◌≤◌, List, length};
+    ghost use Rattle.laver_table.specs.Product.{product_rows};
+    ghost use Rattle.laver_table.specs.Levels.{AreLevels};
     ghost use Rattle.laver_table.specs.declared.TheConstants.{MAX_EXPONENT};
 
     ghost Value = { List (List ℕ) };
 
-    ghost view = { λ s. reverse (map vec_items s.from_last.items) };
+    ghost view = { λ s. product_rows (2 ^ length s.levels.items) };
 
-    ghost invariant = { λ s. (s.exponent ≤ MAX_EXPONENT) × (map vec_items s.from_last.items ≡ rows_from_last (2 ^ s.exponent) (2 ^ s.exponent)) };
+    ghost invariant = { λ s. (length s.levels.items ≤ MAX_EXPONENT) × AreLevels s.levels.items };
 }
 
 impl Table {
@@ -41,8 +44,7 @@ impl Table {
         ensures unique { IfOk result (λ table. (other : List (List ℕ)) → IsLaver n other → other ≡ table) }
     {
         Ok(Table {
-            exponent: n,
-            from_last: rows_from_last(alloc, 1 << n)?,
+            levels: levels_of(alloc, n)?,
         })
     }
 
@@ -51,16 +53,7 @@ impl Table {
         ensures rows { result ≡ length self.now }
         ensures laver { (n : ℕ) × IsLaver n self.now }
     {
-        1 << self.exponent
-    }
-
-    // Row p.
-    fn row(&self, p: u32) -> &[u32]
-        requires { IsUpTo (length self.now) p }
-        ensures row { result.now ≡ row_of self.now p }
-        ensures laver { (n : ℕ) × IsLaver n self.now }
-    {
-        &self.from_last[(self.size() - p) as usize]
+        table_size(&self.levels)
     }
 
     /// The product of p and q, the entry in row p and column q. It counts as one step.
@@ -72,7 +65,7 @@ impl Table {
         ensures counted { steps.new ≡ steps.old + 1 }
     {
         steps.tick();
-        self.row(p)[q as usize - 1]
+        product_in(&self.levels, p, q)
     }
 
     /// The number of different entries in row p, which repeats them.
@@ -81,6 +74,6 @@ impl Table {
         ensures count { result ≡ period_of self.now p }
         ensures periodic { IsPeriodic (length self.now) self.now p result }
     {
-        first_full(self.row(p), self.size())
+        period_in(&self.levels, p)
     }
 }

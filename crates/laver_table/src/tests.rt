@@ -1,6 +1,7 @@
 // Worked rows, the text of tables, and the equations on a larger table.
 ghost use Rattle.std.specs.Prelude.{◌≡◌, ◌<◌, ◌≤◌};
 
+use crate::growth::levels_of;
 use crate::{MAX_EXPONENT, Table, law_doubling, law_one_table, put_row, put_table};
 use std::alloc::Global;
 use std::marker::Brand;
@@ -13,7 +14,7 @@ fn text_of_table<L: Ledger>(alloc: Global, blank: Blank, n: u32) -> Result<Vec<u
     requires name { blank.name ≡ L.name }
     requires parts { blank.parts ≡ L.parts }
     requires shared { 0 < blank.parts }
-    requires small { n ≤ 10 }
+    requires small { n ≤ 14 }
 {
     let mut steps = Steps::<L>::new(blank);
     let table = Table::build(alloc, n)?;
@@ -45,7 +46,7 @@ fn text_of_row<L: Ledger>(alloc: Global, blank: Blank, n: u32, p: u32) -> Result
     requires name { blank.name ≡ L.name }
     requires parts { blank.parts ≡ L.parts }
     requires shared { 0 < blank.parts }
-    requires small { n ≤ 10 }
+    requires small { n ≤ 14 }
 {
     let mut steps = Steps::<L>::new(blank);
     let table = Table::build(alloc, n)?;
@@ -73,7 +74,7 @@ fn a_row_is_written_as_a_line(rt: HostRuntime) -> Result<(), Fail> {
 
 // The periods of the rows of the table of size 2^n, the first one first.
 fn periods(alloc: Global, n: u32) -> Result<Vec<u32>, Fail>
-    requires { n ≤ 10 }
+    requires { n ≤ 14 }
 {
     let table = Table::build(alloc, n)?;
     let mut periods = Vec::new(alloc);
@@ -103,7 +104,7 @@ fn wrong_entries<L: Ledger>(alloc: Global, blank: Blank, n: u32) -> Result<u32, 
     requires name { blank.name ≡ L.name }
     requires parts { blank.parts ≡ L.parts }
     requires shared { 0 < blank.parts }
-    requires small { n ≤ 10 }
+    requires small { n ≤ 14 }
 {
     let mut steps = Steps::<L>::new(blank);
     let table = Table::build(alloc, n)?;
@@ -130,12 +131,63 @@ fn the_table_of_size_256_obeys_the_equations(rt: HostRuntime) -> Result<(), Fail
     Ok(())
 }
 
+// Row p of the table of size 2^n, or nothing where there is no such row.
+fn entries_of_row<L: Ledger>(alloc: Global, blank: Blank, n: u32, p: u32) -> Result<Vec<u32>, Fail>
+    requires name { blank.name ≡ L.name }
+    requires parts { blank.parts ≡ L.parts }
+    requires shared { 0 < blank.parts }
+    requires small { n ≤ 14 }
+{
+    let mut steps = Steps::<L>::new(blank);
+    let table = Table::build(alloc, n)?;
+    let mut entries = Vec::new(alloc);
+    if 1 <= p && p <= table.size() {
+        for before in 0..table.size() {
+            entries.push(table.product(p, before + 1, &mut steps))?;
+        }
+    }
+    Ok(entries)
+}
+
 #[test]
-fn the_largest_table_is_built(rt: HostRuntime) -> Result<(), Fail> {
+fn rows_of_the_largest_table_are_as_known(rt: HostRuntime) -> Result<(), Fail> {
     law_one_table();
     law_doubling();
-    let table = Table::build(rt.alloc(), MAX_EXPONENT)?;
-    assert_eq!(rt; table.size(), 1_024);
-    assert_eq!(rt; table.period(1_024), 1_024);
+    let cases: [(u32, u32, u32); 2] = [(8_191, 8_192, 16_384), (16_383, 16_384, 16_384)];
+    for (p, odd, even) in cases {
+        let row = entries_of_row::<Brand>(rt.alloc(), Blank::new(1), MAX_EXPONENT, p)?;
+        assert_eq!(rt; row.len(), 16_384);
+        for (k, entry) in row.iter().enumerate() {
+            let want = if k % 2 == 0 { odd } else { even };
+            assert_eq!(rt; *entry, want, "in row {p}");
+        }
+    }
+    let last = entries_of_row::<Brand>(rt.alloc(), Blank::new(1), MAX_EXPONENT, 16_384)?;
+    assert_eq!(rt; last.len(), 16_384);
+    for (k, entry) in last.iter().enumerate() {
+        assert_eq!(rt; *entry as usize, k + 1);
+    }
+    Ok(())
+}
+
+#[test]
+fn thresholds_of_sizes_4_and_8_are_as_known(rt: HostRuntime) -> Result<(), Fail> {
+    let levels = levels_of(rt.alloc(), 4)?;
+    assert_eq!(rt; levels[2].len(), 4);
+    for (doubling, want) in levels[2].iter().zip([0, 1, 2, 2]) {
+        assert_eq!(rt; doubling.threshold, want, "in size 4, from row 4 up");
+    }
+    let first = levels[3].last().map(|doubling| doubling.threshold);
+    assert_eq!(rt; first, Some(1), "of row 1 of size 8");
+    Ok(())
+}
+
+#[test]
+fn the_period_of_row_1_grows_as_known(rt: HostRuntime) -> Result<(), Fail> {
+    let known: [u32; 15] = [1, 1, 2, 4, 4, 8, 8, 8, 8, 16, 16, 16, 16, 16, 16];
+    for n in 0..15 {
+        let table = Table::build(rt.alloc(), n)?;
+        assert_eq!(rt; table.period(1), known[n as usize], "at {n}");
+    }
     Ok(())
 }

@@ -9,7 +9,7 @@ use crate::table::Table;
 use std::sync::ledger::Ledger;
 use wb_base::{Failed, Sink, Steps, give_all, put_number, put_numbered};
 
-// Gives the entries of a row from the second on, each behind a space.
+// Gives the entries of a row from the second on, each after a space.
 fn put_rest<K: Sink, L: Ledger>(
     sink: &mut K,
     table: &Table,
@@ -17,9 +17,11 @@ fn put_rest<K: Sink, L: Ledger>(
     steps: &mut Steps<L>,
 ) -> Result<(), Failed>
     requires { IsUpTo (length table.now) p }
-    ensures took { Puts (K.taken sink.old) (K.taken sink.new) result (flat_map spaced_number (drop 1 (row_of table.now p))) }
+    ensures took { Puts (K.taken sink.old) (K.taken sink.new) result
+        (flat_map spaced_number (drop 1 (row_of table.now p))) }
     ensures cause { HasCause (K.faults sink.old) (K.faults sink.new) result }
-    ensures waits { K.waiting sink.new ≤ K.waiting sink.old + length (flat_map spaced_number (drop 1 (row_of table.now p))) }
+    ensures waits { K.waiting sink.new
+        ≤ K.waiting sink.old + length (flat_map spaced_number (drop 1 (row_of table.now p))) }
     ensures counted { OnOk result (steps.new + 1 ≡ steps.old + length table.now) }
     ensures at_most { steps.new + 1 ≤ steps.old + length table.now }
 {

@@ -26,8 +26,10 @@ pub on_braid : (t : Term) → IsOn (height t + 1) (braid t)
 on_braid variable = tt
 on_braid (multiply t u) =
     let n = max (height t) (height u) + 1 in
-    let left = on_more (height t + 1) n (omega (arith, le-max_left (height t) (height u))) (braid t) (on_braid t) in
-    let right = on_more (height u + 1) n (omega (arith, le-max_right (height t) (height u))) (braid u) (on_braid u) in
+    let left = on_more (height t + 1) n (omega (arith, le-max_left (height t) (height u))) (braid t)
+    (on_braid t) in
+    let right = on_more (height u + 1) n (omega (arith, le-max_right (height t) (height u))) (braid u)
+    (on_braid u) in
     on_bracket n (braid t) (braid u) (omega arith) left right
 
 -- a term's braid is a word
@@ -35,7 +37,8 @@ pub word_braid : (t : Term) → IsWord (braid t)
 word_braid t = on_word (height t + 1) (braid t) (on_braid t)
 
 -- some letter of the shifted word has an index one higher
-some_shift : (k : ℕ) (w : List Letter) → SomeLetter (λ x. x.index ≡ k) w → SomeLetter (λ x. x.index ≡ k + 1) (shift w)
+some_shift : (k : ℕ) (w : List Letter) → SomeLetter (λ x. x.index ≡ k) w
+    → SomeLetter (λ x. x.index ≡ k + 1) (shift w)
 some_shift k [] s = absurd s
 some_shift k (x ∷ w) (inl p) = inl (omega (arith, p))
 some_shift k (x ∷ w) (inr s) = inr (some_shift k w s)
@@ -73,7 +76,8 @@ top_bracket
     → SomeLetter (λ x. x.index ≡ max m n + 1) (bracket a b)
 top_bracket m n a b left right =
     elim (cases_lt m n) [
-      | inl below ↦ rw (max_comm m n, max-eq_left {n = n} {m = m} (omega arith)) (right_bracket n a b (right (omega arith)))
+      | inl below ↦ rw (max_comm m n, max-eq_left {n = n} {m = m} (omega arith))
+          (right_bracket n a b (right (omega arith)))
       | inr above ↦ rw (max-eq_left {n = m} {m = n} above) (left_or_one above)
     ]
   where
@@ -104,14 +108,17 @@ length-braid (multiply t u) =
 Equivalent-expands : {t u : Term} → Expands t u → Equivalent (braid t) (braid u)
 Equivalent-expands (here t u v) =
     Equivalent-distributive (braid t) (braid u) (braid v) (word_braid t) (word_braid u) (word_braid v)
-Equivalent-expands (on_left v step) = Equivalent-bracket (Equivalent-expands step) (Equivalent-refl (braid v) (word_braid v))
-Equivalent-expands (on_right v step) = Equivalent-bracket (Equivalent-refl (braid v) (word_braid v)) (Equivalent-expands step)
+Equivalent-expands (on_left v step) =
+    Equivalent-bracket (Equivalent-expands step) (Equivalent-refl (braid v) (word_braid v))
+Equivalent-expands (on_right v step) = Equivalent-bracket (Equivalent-refl (braid v) (word_braid v))
+    (Equivalent-expands step)
 
 -- equivalent terms have equivalent braids
 pub Equivalent-braid : {t u : Term} → IsEquivalent t u → Equivalent (braid t) (braid u)
 Equivalent-braid (stay t) = Equivalent-refl (braid t) (word_braid t)
 Equivalent-braid (forward step chain) = Equivalent-trans (Equivalent-expands step) (Equivalent-braid chain)
-Equivalent-braid (backward step chain) = Equivalent-trans (Equivalent-sym (Equivalent-expands step)) (Equivalent-braid chain)
+Equivalent-braid (backward step chain) = Equivalent-trans (Equivalent-sym (Equivalent-expands step))
+    (Equivalent-braid chain)
 
 -- ---- Order ----
 

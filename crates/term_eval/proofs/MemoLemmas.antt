@@ -1,7 +1,8 @@
 -- How the values that are known grow.
 --
 -- At first none is known (`memo-none`). A term whose value is known adds nothing (`memo-found`), and another
--- product adds itself behind the products of its parts (`memo-more`), which is one term more (`count-more`). So
+-- product adds itself behind the products of its parts (`memo-more`), which is one term more
+-- (`count-more`). So
 -- there is a step for each different product (`steps-distinct`).
 use Rattle.std.proofs.Common.{◌≡◌, ◌≢◌, ℕ, ◌+◌, ◌<◌, ◌≤◌, inl, inr, nat_lt, true, false, ◌||◌, List, [], ◌∷◌, ◌++◌, length, get_or, set, replicate, sym, ap, ◌∙◌, length-append, arith}
 use Rattle.std.proofs.Math.Bool.{or-false}
@@ -34,7 +35,8 @@ memo-none made rows count known room none = record {
     long = ap length none ∙ length-replicate count 0
 
     unknown : (n : ℕ) → n < length known → get_or known n 0 ≡ 0
-    unknown n within = ap (λ z. get_or z n 0) none ∙ get_or-replicate count n 0 0 (omega (arith, within, long))
+    unknown n within = ap (λ z. get_or z n 0) none
+        ∙ get_or-replicate count n 0 0 (omega (arith, within, long))
 
 -- from none known on, there is a step for each different product
 pub steps-distinct
@@ -55,7 +57,8 @@ module _
       → add_new listed (products (term_at made n)) ≡ listed
   memo-found k at found =
       let above : 0 < get_or known n 0 = omega (arith, rw at at found) in
-      let there : has_term (term_at made n) listed ≡ true = memo.marked n within ∙ lt-ltb 0 (get_or known n 0) above in
+      let there : has_term (term_at made n) listed ≡ true = memo.marked n within
+      ∙ lt-ltb 0 (get_or known n 0) above in
       add_new-listed listed (term_at made n) memo.closed there
 
   -- a term whose value isn't known isn't listed
@@ -100,20 +103,23 @@ module _
           ≡ (has_term (term_at made k) listed || same_term (term_at made k) (term_at made n))
       listed_now k =
           list_any-append (same_term (term_at made k)) listed (term_at made n ∷ [])
-          ∙ ap (λ z. has_term (term_at made k) listed || z) (or-false (same_term (term_at made k) (term_at made n)))
+          ∙ ap (λ z. has_term (term_at made k) listed || z)
+          (or-false (same_term (term_at made k) (term_at made n)))
 
       apart : (k : ℕ) → k < length known → k ≢ n → same_term (term_at made k) (term_at made n) ≡ false
       apart k inside other = elim (cases_Bool (same_term (term_at made k) (term_at made n))) [
         | inl one ↦
             let alike = same_term-true (term_at made k) (term_at made n) one in
-            absurd (other (graph.different k n (omega (arith, inside, memo.room)) (omega (arith, within, memo.room)) alike))
+            absurd (other (graph.different k n (omega (arith, inside, memo.room))
+            (omega (arith, within, memo.room)) alike))
         | inr no_one ↦ no_one
       ]
 
       marks
           : (k : ℕ)
           → k < length (set known n value)
-          → has_term (term_at made k) (listed ++ (term_at made n ∷ [])) ≡ nat_lt 0 (get_or (set known n value) k 0)
+          → has_term (term_at made k) (listed ++ (term_at made n ∷ [])) ≡ nat_lt 0
+          (get_or (set known n value) k 0)
       marks k inside = elim (cases_eq k n) [
         | inl one ↦
             rw one (listed_now n
@@ -161,5 +167,6 @@ module _
       → IsMemo made rows (set later j value) (add_new listed (products (term_at made n)))
   memo-more later value j place parts long value_is above =
       let closed = IsClosed-add_new listed (term_at made n) memo.closed in
-      rw (place, added) (memo-push made rows later behind parts n (omega (arith, within, long)) value graph value_is above
+      rw (place, added) (memo-push made rows later behind parts n
+      (omega (arith, within, long)) value graph value_is above
       (rw added at closed))

@@ -1,6 +1,7 @@
 -- Laws of the words that stand in a braid of a term: shifted several times, inverted or not.
 --
--- A product's word is placed by placing those of its parts, in four pieces: forward (`placed-forward`), and in
+-- A product's word is placed by placing those of its parts, in four pieces: forward (`placed-forward`), and
+-- in
 -- the other order where it is inverted (`placed-inverted`).
 use Rattle.std.proofs.Common.{ℕ, ◌≡◌, ◌+◌, zero, suc, Bool, true, false, List, [], ◌∷◌, ◌++◌, refl, ap, ◌∙◌, append_assoc, append-nil, ◌≤◌, Result, OnOk, arith}
 use Rattle.std.proofs.lemmas.Result.{on_ok_weaker}
@@ -27,7 +28,8 @@ shift_by-inverse (suc k) u = ap shift (shift_by-inverse k u) ∙ shift-inverse (
 -- a shifted word is shifted once more
 shift_by-shift : (k : ℕ) (u : List Letter) → shift_by k (shift u) ≡ shift_by (k + 1) u
 shift_by-shift zero u = refl
-shift_by-shift (suc k) u = let e : suc k + 1 ≡ suc (k + 1) = omega arith in rw e (ap shift (shift_by-shift k u))
+shift_by-shift (suc k) u = let e : suc k + 1 ≡ suc (k + 1) = omega arith in
+    rw e (ap shift (shift_by-shift k u))
 
 -- the generator of index 1
 shift_by-one : (k : ℕ) (e : Bool) → shift_by k (letter 1 e ∷ []) ≡ letter (k + 1) e ∷ []
@@ -40,7 +42,18 @@ shift_by-bracket
     → shift_by k (bracket a b)
     ≡ shift_by k a ++ (shift_by (k + 1) b ++ (letter (k + 1) false ∷ inverse (shift_by (k + 1) a)))
 shift_by-bracket k a b =
-    rw (shift_by-append k a (shift b ++ (letter 1 false ∷ inverse (shift a))), shift_by-append k (shift b) (letter 1 false ∷ inverse (shift a)), shift_by-append k (letter 1 false ∷ []) (inverse (shift a)), shift_by-one k false, shift_by-inverse k (shift a), shift_by-shift k a, shift_by-shift k b) refl
+    rw (
+      shift_by-append k a (shift b ++ (letter 1 false ∷ inverse (shift a))),
+      shift_by-append k (shift b)
+          (letter 1 false ∷ inverse (shift a)),
+      shift_by-append k (letter 1 false ∷ [])
+          (inverse (shift a)),
+      shift_by-one k false,
+      shift_by-inverse k
+          (shift a),
+      shift_by-shift k a,
+      shift_by-shift k b,
+    ) refl
 
 -- ---- The pieces of a term ----
 
@@ -58,14 +71,16 @@ placed-variable k true = ap inverse (shift_by-nil k)
 pub placed-forward
     : (k : ℕ) (t u : Term)
     → placed k false (braid (multiply t u))
-    ≡ ((placed k false (braid t) ++ placed (k + 1) false (braid u)) ++ (letter (k + 1) false ∷ [])) ++ placed (k + 1) true (braid t)
+    ≡ ((placed k false (braid t) ++ placed (k + 1) false (braid u)) ++ (letter (k + 1) false ∷ []))
+    ++ placed (k + 1) true (braid t)
 placed-forward k t u = shift_by-bracket k (braid t) (braid u) ∙ simp append_assoc
 
 -- a product's word, shifted and inverted
 pub placed-inverted
     : (k : ℕ) (t u : Term)
     → placed k true (braid (multiply t u))
-    ≡ ((placed (k + 1) false (braid t) ++ (letter (k + 1) true ∷ [])) ++ placed (k + 1) true (braid u)) ++ placed k true (braid t)
+    ≡ ((placed (k + 1) false (braid t) ++ (letter (k + 1) true ∷ [])) ++ placed (k + 1) true (braid u))
+    ++ placed k true (braid t)
 placed-inverted k t u =
     ap inverse (shift_by-bracket k (braid t) (braid u)) ∙ simp (inverse-append, inverse-inverse, append_assoc)
 
@@ -82,7 +97,8 @@ parts_low k most s t u is low =
 
 -- the four pieces of a product's word, where the last one is written unless memory runs out
 pub pieces-forward
-    : {T E : Type 0} (result : Result T E) (k : ℕ) (negative : Bool) (s t u : Term) (before one two three four : List Letter) (x : Letter)
+    : {T E : Type 0} (result : Result T E) (k : ℕ) (negative : Bool) (s t u : Term)
+    (before one two three four : List Letter) (x : Letter)
     → negative ≡ false
     → s ≡ multiply t u
     → one ≡ before ++ placed k false (braid t)
@@ -91,15 +107,18 @@ pub pieces-forward
     → three ≡ two ++ (x ∷ [])
     → OnOk result (four ≡ three ++ placed (k + 1) true (braid t))
     → OnOk result (four ≡ before ++ placed k negative (braid s))
-pieces-forward result k negative s t u before one two three four x sign is first second one_letter third last =
+pieces-forward result k negative s t u before one two three four x sign is first second one_letter third
+    last =
     on_ok_weaker result whole last
   where
     whole : four ≡ three ++ placed (k + 1) true (braid t) → four ≡ before ++ placed k negative (braid s)
-    whole fourth = rw (fourth, third, second, first, one_letter, sign, is, placed-forward k t u) (simp append_assoc)
+    whole fourth = rw (fourth, third, second, first, one_letter, sign, is, placed-forward k t u)
+        (simp append_assoc)
 
 -- the four pieces of its inverse
 pub pieces-inverted
-    : {T E : Type 0} (result : Result T E) (k : ℕ) (negative : Bool) (s t u : Term) (before one two three four : List Letter) (x : Letter)
+    : {T E : Type 0} (result : Result T E) (k : ℕ) (negative : Bool) (s t u : Term)
+    (before one two three four : List Letter) (x : Letter)
     → negative ≡ true
     → s ≡ multiply t u
     → one ≡ before ++ placed (k + 1) false (braid t)
@@ -108,11 +127,13 @@ pub pieces-inverted
     → three ≡ two ++ placed (k + 1) true (braid u)
     → OnOk result (four ≡ three ++ placed k true (braid t))
     → OnOk result (four ≡ before ++ placed k negative (braid s))
-pieces-inverted result k negative s t u before one two three four x sign is first one_letter second third last =
+pieces-inverted result k negative s t u before one two three four x sign is first one_letter second third
+    last =
     on_ok_weaker result whole last
   where
     whole : four ≡ three ++ placed k true (braid t) → four ≡ before ++ placed k negative (braid s)
-    whole fourth = rw (fourth, third, second, first, one_letter, sign, is, placed-inverted k t u) (simp append_assoc)
+    whole fourth = rw (fourth, third, second, first, one_letter, sign, is, placed-inverted k t u)
+        (simp append_assoc)
 
 -- the variable has no letters
 pub pieces-variable

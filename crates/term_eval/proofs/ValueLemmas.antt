@@ -11,10 +11,12 @@ use Rattle.laver_table.proofs.LaverLemmas.{length-laver, IsUpTo-entry}
 use Rattle.term_eval.specs.Values.{value_of}
 
 -- a value is one of the numbers of the table
-pub value_of-up_to : (n : ℕ) (rows : List (List ℕ)) (t : Term) → IsLaver n rows → IsUpTo (length rows) (value_of rows t)
+pub value_of-up_to : (n : ℕ) (rows : List (List ℕ)) (t : Term) → IsLaver n rows
+    → IsUpTo (length rows) (value_of rows t)
 value_of-up_to n rows variable laver = (omega arith, omega (arith, length-laver n rows laver, pow_pos n))
 value_of-up_to n rows (multiply t u) laver =
-    IsUpTo-entry n rows (value_of rows t) (value_of rows u) laver (value_of-up_to n rows t laver) (value_of-up_to n rows u laver)
+    IsUpTo-entry n rows (value_of rows t) (value_of rows u) laver (value_of-up_to n rows t laver)
+    (value_of-up_to n rows u laver)
 
 -- what has a term's value is one of them
 pub up_to-is
@@ -36,7 +38,8 @@ value_of-product rows t a b p q v is left right found = rw (is, sym left, sym ri
 
 -- a value by the size of the table
 up_to_size : (n : ℕ) (rows : List (List ℕ)) (t : Term) → IsLaver n rows → IsUpTo (2 ^ n) (value_of rows t)
-up_to_size n rows t laver = subst (λ N. IsUpTo N (value_of rows t)) (length-laver n rows laver) (value_of-up_to n rows t laver)
+up_to_size n rows t laver = subst (λ N. IsUpTo N (value_of rows t)) (length-laver n rows laver)
+    (value_of-up_to n rows t laver)
 
 -- an expansion keeps the value
 pub value_of-Expands

@@ -12,7 +12,8 @@ use std::sync::ledger::Ledger;
 use term_graph::{NodeId, TermGraph};
 use wb_base::Steps;
 
-// The value of a term, and those of its products into the places of their numbers, where 0 is for a value that
+// The value of a term, and those of its products into the places of their numbers, where 0 is for a value
+// that
 // isn't known.
 //
 // No call is deeper than the term is high.
@@ -32,7 +33,8 @@ fn value_by<L: Ledger>(
     ensures memo { (listed : List Term) → IsMemo graph.now table.now known.old listed
         → IsMemo graph.now table.now known.new (add_new listed (products (term_at graph.now node))) }
     ensures cost { (listed : List Term) → IsMemo graph.now table.now known.old listed
-        → steps.new + length listed ≡ steps.old + length (add_new listed (products (term_at graph.now node))) }
+        → steps.new + length listed ≡ steps.old
+        + length (add_new listed (products (term_at graph.now node))) }
 {
     let Some((left, right)) = graph.children(node) else {
         return 1;
@@ -63,7 +65,8 @@ pub fn value<L: Ledger>(
     ensures value { IfOk result (λ v. v ≡ value_of table.now (term_at graph.now node)) }
     ensures up_to { IfOk result (λ v. IsUpTo (length table.now) v) }
     ensures cost { steps.new ≤ steps.old + length (distinct_products (term_at graph.now node)) }
-    ensures equivalent { IfOk result (λ v. (t : Term) → IsEquivalent t (term_at graph.now node) → value_of table.now t ≡ v) }
+    ensures equivalent { IfOk result (λ v. (t : Term) → IsEquivalent t (term_at graph.now node)
+        → value_of table.now t ≡ v) }
 {
     // Their contracts say that the graph's terms are different, and that the table is left-distributive.
     let _ = (graph.nodes(), table.size());

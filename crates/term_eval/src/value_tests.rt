@@ -38,7 +38,7 @@ fn value_in<L: Ledger>(
     requires name { blank.name ≡ L.name }
     requires parts { blank.parts ≡ L.parts }
     requires shared { 0 < blank.parts }
-    requires small { n ≤ 10 }
+    requires small { n ≤ 14 }
 {
     if node.index() > graph.nodes() as usize {
         return Err(AllocError);
@@ -76,7 +76,7 @@ fn a_term_of_many_leaves_takes_as_many_products_as_differ(rt: HostRuntime) -> Re
         node = product_of(&mut graph, node, node)?;
     }
     assert_eq!(rt; graph.nodes(), 40);
-    for (n, want) in [(0, 1), (1, 2), (3, 8), (4, 16)] {
+    for (n, want) in [(0, 1), (1, 2), (3, 8), (4, 16), (14, 16_384)] {
         let found = value_in::<Brand>(alloc, Blank::new(1), n, &graph, node)?;
         assert_eq!(rt; found, want, "in size 2^{n}");
     }
@@ -94,7 +94,12 @@ fn terms_as_high_as_may_be_have_values(rt: HostRuntime) -> Result<(), Fail> {
         left = product_of(&mut graph, left, x)?;
         right = product_of(&mut graph, x, right)?;
     }
-    for (n, node, want) in [(3, left, 1), (3, right, 8), (10, left, 1_001)] {
+    for (n, node, want) in [
+        (3, left, 1),
+        (3, right, 8),
+        (10, left, 1_001),
+        (14, left, 1_001),
+    ] {
         let found = value_in::<Brand>(alloc, Blank::new(1), n, &graph, node)?;
         assert_eq!(rt; found, want, "in size 2^{n}");
     }

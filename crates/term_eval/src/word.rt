@@ -50,7 +50,8 @@ fn push_braid(
 ) -> Result<(), AllocError>
     requires there { node < length graph.now }
     requires low { height (term_at graph.now node) + shift ≤ MAX_INDEX }
-    ensures { OnOk result (letters.new.items ≡ letters.old.items ++ placed shift inverted (braid (term_at graph.now node))) }
+    ensures { OnOk result (letters.new.items ≡ letters.old.items ++ placed shift inverted
+        (braid (term_at graph.now node))) }
 {
     let Some((left, right)) = graph.children(node) else {
         return Ok(());
@@ -71,7 +72,8 @@ fn push_braid(
 
 /// The braid word of a term, which has at most `limit` letters.
 ///
-/// Its length and its greatest index are tested on the graph's numbers, so a word that is refused isn't begun.
+/// Its length and its greatest index are tested on the graph's numbers, so a word that is refused isn't
+/// begun.
 /// After Dehornoy, Braid groups and left distributive operations.
 pub fn eval(alloc: Global, graph: &TermGraph, node: NodeId, limit: u32) -> Result<Word, EvalErr>
     requires number { node < length graph.now }
@@ -79,9 +81,13 @@ pub fn eval(alloc: Global, graph: &TermGraph, node: NodeId, limit: u32) -> Resul
     ensures word { IfOk result (λ w. w ≡ braid (term_at graph.now node)) }
     ensures short { IfOk result (λ w. length w ≤ limit) }
     ensures low { IfOk result (λ w. IsOn (MAX_INDEX + 1) w) }
-    ensures equivalent { IfOk result (λ w. (t : Term) → IsEquivalent t (term_at graph.now node) → Equivalent (braid t) w) }
-    ensures too_long { (count : ℕ) → (result ≡ Err (TooLong count)) ↔ ((limit < braid_length (term_at graph.now node)) × (count ≡ capped (braid_length (term_at graph.now node)))) }
-    ensures index { (result ≡ Err Index) ↔ ((braid_length (term_at graph.now node) ≤ limit) × (MAX_INDEX < height (term_at graph.now node))) }
+    ensures equivalent { IfOk result (λ w. (t : Term) → IsEquivalent t (term_at graph.now node)
+        → Equivalent (braid t) w) }
+    ensures too_long { (count : ℕ) → (result ≡ Err (TooLong count))
+        ↔ ((limit < braid_length (term_at graph.now node))
+        × (count ≡ capped (braid_length (term_at graph.now node)))) }
+    ensures index { (result ≡ Err Index)
+        ↔ ((braid_length (term_at graph.now node) ≤ limit) × (MAX_INDEX < height (term_at graph.now node))) }
 {
     let length = graph.length(node);
     if length > u64::from(limit) {

@@ -7,7 +7,8 @@ pub returns-clause-exists : goal.returns-clause-exists
 returns-clause-exists c = λ n. (product_rows (2 ^ n), IsLaver-product_rows n)
 
 pub returns-clause-unique : goal.returns-clause-unique
-returns-clause-unique c = λ n rows other first second. IsLaver-only n rows first ∙ sym (IsLaver-only n other second)
+returns-clause-unique c = λ n rows other first second.
+    IsLaver-only n rows first ∙ sym (IsLaver-only n other second)
 
 pub returns-clause-computed : goal.returns-clause-computed
 returns-clause-computed c = λ n rows laver. IsComputed-laver n rows laver

@@ -7,12 +7,14 @@ use Rattle.term_eval.proofs.table_value.+value_by.Goals as goal
 
 pub returns-then-found-ne0-clause-memo : goal.returns-then-found-ne0-clause-memo
 returns-then-found-ne0-clause-memo g t c = λ listed memo.
-    let found = memo-found _ _ _ listed memo c.args.node c.requires.there c.index.result c.index.ensures c.if-found-ne0.true in
+    let found = memo-found _ _ _ listed memo c.args.node c.requires.there c.index.result c.index.ensures
+    c.if-found-ne0.true in
     subst (IsMemo c.args.graph.now c.args.table.now c.args.known.now) (sym found) memo
 
 pub returns-then-found-ne0-clause-cost : goal.returns-then-found-ne0-clause-cost
 returns-then-found-ne0-clause-cost g t c = λ listed memo.
-    let found = memo-found _ _ _ listed memo c.args.node c.requires.there c.index.result c.index.ensures c.if-found-ne0.true in
+    let found = memo-found _ _ _ listed memo c.args.node c.requires.there c.index.result c.index.ensures
+    c.if-found-ne0.true in
     ap (λ terms. c.args.steps.now + length terms) (sym found)
 
 pub value_by-right-requires : goal.value_by-right-requires
@@ -21,7 +23,13 @@ value_by-right-requires g t c κs within =
     let left = c.value_by-left.ensures in
     let below = c.in-Some.ensures.1 in (
       omega (arith, below, c.decreases),
-      (within, (omega (arith, below, c.requires.there, left.room), (c.requires.graph, (c.requires.laver, (_, left.memo listed memo))))),
+      (
+        within,
+        (
+          omega (arith, below, c.requires.there, left.room),
+          (c.requires.graph, (c.requires.laver, (_, left.memo listed memo))),
+        ),
+      ),
     )
 
 pub product-value-requires-clause-row : goal.product-value-requires-clause-row
@@ -39,13 +47,24 @@ returns-clause-memo g t c = λ listed memo.
     let left = c.value_by-left.ensures in
     let right = c.value_by-right.ensures in
     let is = c.in-Some.ensures.2 in
-    let value = value_of-product c.args.table.now _ _ _ _ _ _ is left.value right.value c.product-value.ensures.entry in
-    memo-more _ _ _ listed c.args.node _ _ c.requires.graph memo c.requires.there c.index.result c.index.ensures c.if-found-ne0.false is
-    c.value_by-right.new.known c.product-value.result c.index-2.result c.index-2.ensures (right.memo _ (left.memo listed memo)) (right.room ∙ left.room) value c.product-value.ensures.up_to.0
+    let value = value_of-product c.args.table.now _ _ _ _ _ _ is left.value right.value
+    c.product-value.ensures.entry in
+    memo-more _ _ _ listed c.args.node _ _ c.requires.graph memo c.requires.there c.index.result
+    c.index.ensures c.if-found-ne0.false is
+    c.value_by-right.new.known c.product-value.result c.index-2.result c.index-2.ensures
+    (right.memo _ (left.memo listed memo)) (right.room ∙ left.room) value c.product-value.ensures.up_to.0
 
 pub returns-clause-cost : goal.returns-clause-cost
 returns-clause-cost g t c = λ listed memo.
     let left = c.value_by-left.ensures in
     let right = c.value_by-right.ensures in
-    let more = count-more _ _ _ listed c.args.node _ _ c.requires.graph memo c.requires.there c.index.result c.index.ensures c.if-found-ne0.false c.in-Some.ensures.2 in
-    omega (arith, more, left.cost listed memo, right.cost _ (left.memo listed memo), c.product-value.ensures.counted)
+    let more = count-more _ _ _ listed c.args.node _ _ c.requires.graph memo c.requires.there c.index.result
+    c.index.ensures c.if-found-ne0.false c.in-Some.ensures.2 in
+    omega (
+      arith,
+      more,
+      left.cost listed memo,
+      right.cost _
+          (left.memo listed memo),
+      c.product-value.ensures.counted,
+    )
