@@ -52,7 +52,11 @@ positive_product i j u v one two = elim (cases_order i j) [
 ]
 
 -- the product of sigma-positive words is sigma-positive
-pub IsSigmaPositive-append : (u v : List Letter) → IsSigmaPositive u → IsSigmaPositive v → IsSigmaPositive (u ++ v)
+pub IsSigmaPositive-append
+    : (u v : List Letter)
+    → IsSigmaPositive u
+    → IsSigmaPositive v
+    → IsSigmaPositive (u ++ v)
 IsSigmaPositive-append u v (i, one) (j, two) = positive_product i j u v one two
 
 -- ---- Positive words aren't trivial ----

@@ -3,6 +3,7 @@ pub mod EquivalenceLemmas
 pub mod CommutingLemmas
 pub mod RewritingLemmas
 pub mod ShiftLemmas
+pub mod SignAppendLemmas
 pub mod SignLemmas
 pub mod NotationLemmas
 pub mod KeptLemmas

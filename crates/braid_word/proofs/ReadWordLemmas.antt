@@ -16,7 +16,8 @@ use Rattle.braid_word.specs.Notation.{letters_of, letters_from, in_front, not_to
 use Rattle.braid_word.specs.declared.TheConstants.{MAX_INDEX}
 use Rattle.braid_word.specs.declared.reader.WordErr.{WordErr}
 use Rattle.braid_word.specs.declared.reader.WordErr.TheVariants.{BadLetter}
-use Rattle.braid_word.proofs.SpellingLemmas.{Ok-injective, in_front-is, letters_of-is, not_too_long-is, not_too_long-short, letters_of-letter_text, length-letter_text, split-word_text, AllWithin, word_text-within, strict_word_of-is}
+use Rattle.wb_base.proofs.PartLemmas.{Ok-injective}
+use Rattle.braid_word.proofs.SpellingLemmas.{in_front-is, letters_of-is, not_too_long-is, not_too_long-short, letters_of-letter_text, length-letter_text, split-word_text, AllWithin, word_text-within, strict_word_of-is}
 
 -- ---- What is read can be read ----
 
@@ -158,7 +159,8 @@ unfolding number_word_of word_text
 number_word_of-word_text [] readable = refl
 number_word_of-word_text (x ∷ w) readable =
     let on = readable.on in
-    ap (λ parts. not_too_long (letters_of (filter (λ (piece : Piece). not (eqb (length piece.bytes) 0)) (placed_from 1 parts))))
+    ap (λ parts. not_too_long (letters_of
+    (filter (λ (piece : Piece). not (eqb (length piece.bytes) 0)) (placed_from 1 parts))))
     (split-word_text x w on)
     ∙ ap (λ pieces. not_too_long (letters_of pieces)) (filter-letter_text 1 (x ∷ w) on)
     ∙ ap not_too_long (letters_of-letter_text 1 (x ∷ w) on)

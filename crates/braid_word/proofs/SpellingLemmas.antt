@@ -20,20 +20,7 @@ use Rattle.braid_word.specs.declared.TheConstants.{MAX_INDEX, MAX_LETTERS}
 use Rattle.braid_word.specs.declared.reader.WordErr.{WordErr}
 use Rattle.braid_word.specs.declared.reader.WordErr.TheVariants.{BadLetter, TooLong}
 use Rattle.braid_word.proofs.PieceLemmas.{split, letter_at, strict_word_of-parts}
-
--- ---- Answers ----
-
--- what is answered where a test passes, of a test that refuses
-pub Ok-cond
-    : {A E : Type 0} (b : Bool) (r : Result A E) (e : E) (y : A)
-    → cond b r (Err e) ≡ Ok y
-    → (b ≡ true) × (r ≡ Ok y)
-Ok-cond true r e y is = (refl, is)
-Ok-cond false r e y is = absurd (cc)
-
--- one answer is one value
-pub Ok-injective : {A E : Type 0} (x y : A) → ◌≡◌ {A = Result A E} (Ok x) (Ok y) → x ≡ y
-Ok-injective x y is = cc
+use Rattle.wb_base.proofs.PartLemmas.{Ok-cond, Ok-injective}
 
 -- ---- Letters ----
 

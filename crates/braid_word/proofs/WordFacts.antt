@@ -18,7 +18,8 @@ shift_row = refl
 
 -- on 3 strands the second letter of `1 3 4` is the first outside, and `1 2` has none
 outside_row
-    : first_outside 3 (letter 1 false ∷ letter 3 false ∷ letter 4 false ∷ []) ∷ (first_outside 3 (letter 1 false ∷ letter 2 false ∷ []) ∷ [])
+    : first_outside 3 (letter 1 false ∷ letter 3 false ∷ letter 4 false ∷ []) ∷
+    (first_outside 3 (letter 1 false ∷ letter 2 false ∷ []) ∷ [])
     ≡ Some 1 ∷ (None ∷ [])
 outside_row = refl
 

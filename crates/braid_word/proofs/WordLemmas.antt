@@ -4,13 +4,14 @@
 -- A fact about the letters of a word is taken apart and put together at `++` and at `inverse`. The
 -- inverse of a product is the product of the inverses, the other way round (`inverse-append`), and
 -- inverting twice changes nothing (`inverse-inverse`).
-use Rattle.std.proofs.Common.{ℕ, zero, suc, ◌≡◌, Bool, true, false, not, cond, ltb, ◌⊎◌, inl, inr, ◌+◌, ◌<◌, ◌≤◌, List, [], ◌∷◌, ◌++◌, Some, None, refl, sym, ap, subst, append_assoc, append-nil, length, length-append, take, get_or, map, reverse, arith}
+use Rattle.std.proofs.Common.{ℕ, zero, suc, ◌≡◌, Bool, true, false, not, ltb, ◌⊎◌, inl, inr, ◌+◌, ◌<◌, ◌≤◌, List, [], ◌∷◌, ◌++◌, Some, None, refl, sym, ap, subst, append_assoc, append-nil, length, length-append, take, get_or, map, reverse, arith}
 use Rattle.std.specs.List.{position_or_len}
-use Rattle.std.proofs.lemmas.Bool.{lt-ltb, le-ltb, ltb-true, ltb-false}
+use Rattle.std.proofs.lemmas.Bool.{lt-ltb, le-ltb, ltb-true}
 use Rattle.std.proofs.lemmas.List.{map-append, reverse-append}
 use Rattle.std.proofs.Math.Bool.{not-not}
 use mathlib.Core.Path.{◌≡⟨◌⟩◌, ◌∎}
 use Rattle.braid_word.specs.Words.{Letter, letter, opposite, inverse, quotient, EachLetter, SomeLetter, IsWord, IsOn, first_outside}
+use Rattle.wb_base.proofs.PartLemmas.{position-None}
 
 -- ---- Each letter ----
 
@@ -218,7 +219,8 @@ position-here
 position-here n k [] d within on high = absurd (omega (arith, within))
 position-here n zero (x ∷ w) d within on high = rw (le-ltb x.index n high) refl
 position-here n (suc k) (x ∷ w) d within on high =
-    rw (lt-ltb x.index n on.0.1) (let rest = position-here n k w d (omega (arith, within)) on.1 high in omega arith)
+    rw (lt-ltb x.index n on.0.1)
+    (let rest = position-here n k w d (omega (arith, within)) on.1 high in omega arith)
 
 pub first_outside-here
     : (n k : ℕ) (w : List Letter) (x d : Letter)
@@ -247,14 +249,7 @@ on-position n more (x ∷ w) on past = go (ltb x.index n) refl (on-position n mo
     go true low rest = ((on.0.0, ltb-true x.index n low), rest (let more = rw low at past in omega arith))
     go false high rest = absurd (let more = rw high at past in omega arith)
 
--- a place that is none is past the end
-none-past : (k n : ℕ) → cond (ltb k n) (Some k) None ≡ None → n ≤ k
-none-past k n none = go (ltb k n) refl none
-  where
-    go : (within : Bool) → ltb k n ≡ within → cond within (Some k) None ≡ None → n ≤ k
-    go true test none = absurd (cc)
-    go false test none = ltb-false k n test
-
+-- where no letter is outside, the word is on these strands
 pub on-first_outside : (n more : ℕ) (w : List Letter) → IsOn more w → first_outside n w ≡ None → IsOn n w
 on-first_outside n more w on none =
-    on-position n more w on (none-past (position_or_len (is_outside n) w) (length w) none)
+    on-position n more w on (position-None (is_outside n) w none)

@@ -75,7 +75,8 @@ is_piece strict part = strict || not (length part == 0)
 
 -- The word whose letters are those parts. No public clause cites it.
 unfoldable pub word_by : Bool → List ℕ → Result (List Letter) WordErr
-word_by strict line = not_too_long (letters_of (filter (λ (piece : Piece). is_piece strict piece.bytes) (parts_of line)))
+word_by strict line =
+    not_too_long (letters_of (filter (λ (piece : Piece). is_piece strict piece.bytes) (parts_of line)))
 
 -- A word that can be read: it has no more than 100,000 letters, and their indices are from 1 to 255.
 pub record IsReadable (w : List Letter) : Type 0 where

@@ -28,7 +28,8 @@ pub record Piece : Type 0 where
 -- Parts of which the first begins at this place, with one byte between neighbours.
 abbrev pub placed_from : ℕ → List (List ℕ) → List Piece
 placed_from place [] = []
-placed_from place (part ∷ parts) = record { place = place; bytes = part } ∷ placed_from (place + length part + 1) parts
+placed_from place (part ∷ parts) =
+    record { place = place; bytes = part } ∷ placed_from (place + length part + 1) parts
 
 -- The parts between single spaces: of `1  -2` they are `1` at 1, an empty one at 3 and `-2` at 4.
 abbrev pub parts_of : List ℕ → List Piece
@@ -56,7 +57,8 @@ is_numeral digits = list_all is_ascii_digit digits && is_canonical digits
 -- The letter of this index, if it is one: an index of 0 or above 255 is a fault.
 abbrev pub with_index : ℕ → ℕ → Bool → Result Letter WordErr
 with_index place index negative =
-    if nat_lt 0 index && nat_lt index (MAX_INDEX + 1) then Ok (letter index negative) else Err (BadIndex place)
+    if nat_lt 0 index && nat_lt index (MAX_INDEX + 1) then Ok (letter index negative)
+    else Err (BadIndex place)
 
 -- The letter that a piece is: `-2` is the inverse of generator 2. `02` is no letter, and `0` no index.
 abbrev pub letter_of : Piece → Result Letter WordErr

@@ -35,7 +35,8 @@ IsSigmaNegative w = (i : ℕ) × IsSigmaNegativeAt i w
 -- The generator of index i and its inverse both occur, and no index is lower: `3 2 -2` at 2.
 abbrev pub IsMixedAt : ℕ → List Letter → Type 0
 IsMixedAt i w =
-    SomeLetter (λ x. x ≡ letter i false) w × SomeLetter (λ x. x ≡ letter i true) w × EachLetter (λ x. i ≤ x.index) w
+    SomeLetter (λ x. x ≡ letter i false) w × SomeLetter (λ x. x ≡ letter i true) w
+    × EachLetter (λ x. i ≤ x.index) w
 
 -- ---- Verdicts ----
 

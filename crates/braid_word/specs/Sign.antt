@@ -24,7 +24,8 @@ least_index x (y ∷ w) = min x.index (least_index y w)
 
 -- Whether the generator of index i occurs, or its inverse where `negative` is true.
 abbrev pub occurs : ℕ → Bool → List Letter → Bool
-occurs i negative w = list_any (λ (x : Letter). (x.index == i) && (if negative then x.negative else not x.negative)) w
+occurs i negative w =
+    list_any (λ (x : Letter). (x.index == i) && (if negative then x.negative else not x.negative)) w
 
 -- The sign of a word whose least index is i.
 abbrev pub sign_at : ℕ → List Letter → Sign

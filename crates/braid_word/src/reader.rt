@@ -68,7 +68,8 @@ fn is_numeral(bytes: &[u8]) -> bool
 // The index that some digits write, where it is one of a letter that may be read.
 fn index_of(digits: &[u8]) -> Option<u16>
     requires { AllDigits 10 digits.now }
-    ensures { SomeIff result ((0 < digits_value 10 digits.now) × (digits_value 10 digits.now < MAX_INDEX + 1)) (digits_value 10 digits.now) }
+    ensures { SomeIff result ((0 < digits_value 10 digits.now) × (digits_value 10 digits.now < MAX_INDEX + 1))
+        (digits_value 10 digits.now) }
 {
     let mut index = 0;
     for byte in digits {

@@ -32,7 +32,8 @@ impl Sign {
 
     // The least index.
     fn least(self) -> Option<u16>
-        ensures { MatchOption result (self ≡ Sign.Empty) (λ i. (self ≡ Sign.Positive i) ⊎ (self ≡ Sign.Negative i) ⊎ (self ≡ Sign.Mixed i)) }
+        ensures { MatchOption result (self ≡ Sign.Empty)
+            (λ i. (self ≡ Sign.Positive i) ⊎ (self ≡ Sign.Negative i) ⊎ (self ≡ Sign.Mixed i)) }
     {
         match self {
             Sign::Empty => None,

@@ -90,7 +90,8 @@ pub fn quotient(alloc: Global, u: &[Letter], v: &[Letter]) -> Result<Word, Alloc
     Ok(Word { letters })
 }
 
-/// The place, counted from 0, of the first letter that isn't on so many strands: its index is their number or more.
+/// The place, counted from 0, of the first letter that isn't on so many strands: its index is their number or
+/// more.
 pub fn first_outside(letters: &[Letter], strands: u32) -> Option<usize>
     ensures place { result ≡ first_outside strands letters.now }
     ensures within { IfSome result (λ k. k < length letters.now) }

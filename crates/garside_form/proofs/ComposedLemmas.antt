@@ -12,7 +12,7 @@ use Rattle.perm_braid.specs.SimpleWords.{generator, rising_word, delta_word, IsW
 use Rattle.perm_braid.proofs.PlaceLemmas.{same_entries, entry-map, entry-reverse, place_low, Undoes, place_of-from, IsOrder-from, IsOrder-entry, entry-identity, IsOrder-identity, length-half_turn, entry-half_turn}
 use Rattle.perm_braid.proofs.SwapLemmas.{neighbour-neighbour, entry-swapped, entry-values_swapped, IsOrder-swapped, IsOrder-values_swapped}
 use Rattle.perm_braid.proofs.SortingLemmas.{entries_differ}
-use Rattle.garside_form.proofs.SettleLemmas.{IsBefore}
+use Rattle.garside_form.proofs.LeadingLemmas.{IsBefore}
 use Rattle.garside_form.proofs.LevelLemmas.{before-reverse}
 use Rattle.garside_form.proofs.WordLevelLemmas.{IsWay, arrive, cross}
 
@@ -42,7 +42,8 @@ Undoes-composed {n} {x} {p} in_x in_p = record {
       rw (entry-composed x in_p i low high) (in_x.within (entry p i) inside.0 inside.1);
   back = λ i low high.
       let inside = in_p.within i low high in
-      rw (entry-composed x in_p i low high, in_x.distinct (entry p i) inside.0 inside.1) (in_p.distinct i low high);
+      rw (entry-composed x in_p i low high, in_x.distinct (entry p i) inside.0 inside.1)
+      (in_p.distinct i low high);
   forth = λ e low high.
       let least = place_low x e in
       let most = in_x.has e low high in
@@ -100,7 +101,8 @@ composed-injective {n} {x} {p} {q} in_x in_p in_q same =
     let two = in_q.within i low fits in
     let at : entry x (entry p i) ≡ entry x (entry q i) =
     sym (entry-composed x in_p i low fits) ∙ (ap (λ a. entry a i) same ∙ entry-composed x in_q i low fits) in
-    sym (in_x.distinct (entry p i) one.0 one.1) ∙ (ap (place_of x) at ∙ in_x.distinct (entry q i) two.0 two.1))
+    sym (in_x.distinct (entry p i) one.0 one.1)
+    ∙ (ap (place_of x) at ∙ in_x.distinct (entry q i) two.0 two.1))
 
 -- what leads to the order backwards is the half turn
 pub half_turn-from
@@ -115,7 +117,8 @@ half_turn-from {n} {x} {p} in_x in_p same =
     let fits : i ≤ n = omega (arith, in_p.size, high) in
     let one = in_p.within i low fits in
     let size = in_x.size in
-    let back : entry (reverse x) i ≡ entry x (length x + 1 - i) = entry-reverse x i low (omega (arith, size, fits)) in
+    let back : entry (reverse x) i ≡ entry x (length x + 1 - i) =
+    entry-reverse x i low (omega (arith, size, fits)) in
     let mirror : length x + 1 - i ≡ n + 1 - i = omega (arith, size) in
     let at : entry x (entry p i) ≡ entry x (n + 1 - i) =
     sym (entry-composed x in_p i low fits) ∙ (ap (λ a. entry a i) same ∙ (rw mirror at back)) in
@@ -127,7 +130,8 @@ half_turn-from {n} {x} {p} in_x in_p same =
 pub reverse_differs : {n : ℕ} {x : List ℕ} → IsOrder n x → 2 ≤ n → reverse x ≡ x → ⊥
 reverse_differs {n} {x} order two same =
     let size = order.size in
-    let back : entry (reverse x) 1 ≡ entry x (length x + 1 - 1) = entry-reverse x 1 (omega arith) (omega (arith, size)) in
+    let back : entry (reverse x) 1 ≡ entry x (length x + 1 - 1) =
+    entry-reverse x 1 (omega arith) (omega (arith, size)) in
     let mirror : length x + 1 - 1 ≡ n = omega (arith, size) in
     let at : entry x 1 ≡ entry x n = sym (ap (λ a. entry a 1) same) ∙ (rw mirror at back) in
     absurd (entries_differ order 1 n (omega arith) (omega arith) (omega arith) at)
@@ -189,10 +193,14 @@ swapped-front
 swapped-front [] i e f rest at = let one : i ≡ 1 = omega arith in rw one refl
 swapped-front (g ∷ front) zero e f rest at = absurd (omega arith)
 swapped-front (g ∷ front) (suc zero) e f rest at = absurd (omega arith)
-swapped-front (g ∷ front) (suc (suc i)) e f rest at = ap (λ a. g ∷ a) (swapped-front front (suc i) e f rest (omega arith))
+swapped-front (g ∷ front) (suc (suc i)) e f rest at =
+    ap (λ a. g ∷ a) (swapped-front front (suc i) e f rest (omega arith))
 
 -- the entries behind a front
-entry-front : (front : List ℕ) (i e : ℕ) (rest : List ℕ) → i ≡ length front + 1 → entry (front ++ e ∷ rest) i ≡ e
+entry-front
+    : (front : List ℕ) (i e : ℕ) (rest : List ℕ)
+    → i ≡ length front + 1
+    → entry (front ++ e ∷ rest) i ≡ e
 entry-front [] i e rest at = let one : i ≡ 1 = omega arith in rw one refl
 entry-front (g ∷ front) zero e rest at = absurd (omega arith)
 entry-front (g ∷ front) (suc zero) e rest at = absurd (omega arith)
@@ -205,7 +213,8 @@ way_run
     → length front + (length passed + 1) ≤ n
     → IsBehind z e passed
     → IsWay n z (front ++ (passed ++ e ∷ rest)) u
-    → IsWay n z (front ++ (e ∷ (passed ++ rest))) (map generator (range_with_len (k + 1) (length passed)) ++ u)
+    → IsWay n z (front ++ (e ∷ (passed ++ rest)))
+    (map generator (range_with_len (k + 1) (length passed)) ++ u)
 way_run front e [] rest k at fits behind way = way
 way_run {n} {z} {u} front e (f ∷ passed) rest k at fits behind way =
     cross (k + 1) (omega arith) (omega arith)
@@ -253,9 +262,13 @@ turned_from z (e ∷ front) all = (
       (λ i j low less high. rest i j low less high),
 )
   where
-    behind : (front : List ℕ) → ((j : ℕ) → 1 ≤ j → j ≤ length front → IsBefore z (entry front j) e) → IsBehind z e front
+    behind
+        : (front : List ℕ)
+        → ((j : ℕ) → 1 ≤ j → j ≤ length front → IsBefore z (entry front j) e)
+        → IsBehind z e front
     behind [] each = tt
-    behind (f ∷ front) each = (each 1 (omega arith) (omega arith), behind front (λ j low high. later j low high each))
+    behind (f ∷ front) each =
+        (each 1 (omega arith) (omega arith), behind front (λ j low high. later j low high each))
       where
         later : (j : ℕ) → 1 ≤ j → j ≤ length front
             → ((j : ℕ) → 1 ≤ j → j ≤ length (f ∷ front) → IsBefore z (entry (f ∷ front) j) e)
@@ -270,7 +283,8 @@ turned_from z (e ∷ front) all = (
     rest : (i j : ℕ) → 1 ≤ i → i < j → j ≤ length front → IsBefore z (entry front j) (entry front i)
     rest zero j low less high = absurd (omega arith)
     rest (suc i) zero low less high = absurd (omega arith)
-    rest (suc i) (suc j) low less high = all (suc (suc i)) (suc (suc j)) (omega arith) (omega arith) (omega arith)
+    rest (suc i) (suc j) low less high =
+        all (suc (suc i)) (suc (suc j)) (omega arith) (omega arith) (omega arith)
 
 -- the word of the half turn is a way to the order backwards
 pub IsWay-delta : {n : ℕ} {x : List ℕ} → IsOrder n x → IsWay n (reverse x) x (delta_word n)

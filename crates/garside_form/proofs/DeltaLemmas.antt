@@ -1,8 +1,8 @@
 -- The half turn of n strands among other letters, up to equivalence on n strands.
 --
 -- Any two ways between the same orders are equivalent (`EquivalentOn-ways`). The half turn passes a
--- letter and turns its index i into n - i (`EquivalentOn-delta_pass`): it can begin with the one letter and end
--- with the other. So a simple braid behind a half turn is its flip before it, and an inverse letter
+-- letter and turns its index i into n - i (`EquivalentOn-delta_pass`): it can begin with the one letter and
+-- end with the other. So a simple braid behind a half turn is its flip before it, and an inverse letter
 -- is a simple braid and an inverse half turn.
 use Rattle.std.proofs.Common.{ℕ, ◌≡◌, inl, inr, ◌+◌, ◌-◌, ◌<◌, ◌≤◌, ◌∙◌, Bool, true, false, List, [], ◌∷◌, ◌++◌, length, append_assoc, append-nil, map, reverse, refl, sym, ap, subst, arith}
 use Rattle.std.specs.Prelude.{nat_lt}
@@ -14,10 +14,10 @@ use Rattle.perm_braid.specs.Arrangements.{entry, place_of, swapped, values_swapp
 use Rattle.perm_braid.specs.SimpleWords.{generator, delta_word, IsWordOf}
 use Rattle.perm_braid.proofs.PlaceLemmas.{same_entries, entry-map, entry-reverse, IsOrder-identity, IsOrder-half_turn, place_of-half_turn, entry-identity, length-identity}
 use Rattle.perm_braid.proofs.SwapLemmas.{neighbour_case, length-swapped, entry-swapped, entry-flip, IsOrder-swapped, IsOrder-flip}
-use Rattle.perm_braid.proofs.SortingLemmas.{IsSorting, sorted, step, IsSorting-equivalent}
+use Rattle.perm_braid.proofs.SortingWordLemmas.{IsSorting, sorted, step, IsSorting-equivalent}
 use Rattle.perm_braid.proofs.SimpleWordLemmas.{swapped-map, word_exists, IsWordOf-front}
 use Rattle.garside_form.proofs.SortLemmas.{Leads, done, turn}
-use Rattle.garside_form.proofs.SettleLemmas.{IsBefore, IsStrand, neighbours_before, before-swapped, relative, IsOrder-relative, leads_to}
+use Rattle.garside_form.proofs.LeadingLemmas.{IsBefore, IsStrand, neighbours_before, before-swapped, relative, IsOrder-relative, leads_to}
 use Rattle.garside_form.proofs.LevelLemmas.{IsOrder-reverse, before-reverse}
 use Rattle.garside_form.proofs.EquivalentLevelLemmas.{turns_own}
 use Rattle.garside_form.proofs.WordLevelLemmas.{IsWay, arrive, cross, IsOn-way}
@@ -62,7 +62,8 @@ pub EquivalentOn-ways
     → IsWay n z x v
     → EquivalentOn n u v
 EquivalentOn-ways in_z in_x one two =
-    IsSorting-equivalent (IsOrder-relative in_x in_z) (IsSorting-way in_z in_x one) (IsSorting-way in_z in_x two)
+    IsSorting-equivalent (IsOrder-relative in_x in_z) (IsSorting-way in_z in_x one)
+    (IsSorting-way in_z in_x two)
 
 -- exchanges of pairs that stand otherwise in z are a way there
 way_leads
@@ -102,7 +103,8 @@ IsWay-append {n} {z} {x} {u} {v} y in_x all (cross i low high turns rest) second
     (λ e f is_e is_f before after.
     elim (before-swapped in_x i f e low high is_f is_e before) [
       | inl same ↦ all e f is_e is_f same after
-      | inr pair ↦ let twisted : IsBefore z e f = rw (pair.0, pair.1) turns in absurd (omega (arith, twisted, after))
+      | inr pair ↦ let twisted : IsBefore z e f =
+          rw (pair.0, pair.1) turns in absurd (omega (arith, twisted, after))
     ]) rest second)
 
 -- ---- The half turn passes a letter ----
@@ -127,7 +129,8 @@ swapped-reverse {n} {x} order i j low high mirror =
     let case_k = neighbour_case i k in
     let case_m = neighbour_case j (n + 1 - k) in
     let first = entry-swapped i k (reverse x) low (omega (arith, back.size, high)) in
-    let there = entry-reverse x (neighbour i k) (omega (arith, case_k)) (omega (arith, size, case_k, fits, high)) in
+    let there = entry-reverse x (neighbour i k) (omega (arith, case_k))
+    (omega (arith, size, case_k, fits, high)) in
     let last = entry-reverse (swapped j x) k least (omega (arith, length-swapped j x, size, fits)) in
     let second = entry-swapped j (n + 1 - k) x (omega arith) (omega (arith, size)) in
     let len : length (swapped j x) + 1 - k ≡ n + 1 - k = omega (arith, length-swapped j x, size) in
@@ -159,9 +162,11 @@ EquivalentOn-delta_generator n i low high =
     let last_turns : IsBefore (reverse (swapped j x)) (entry (reverse x) (i + 1)) (entry (reverse x) i) =
     rw (← ends) (turns_own i in_z low high) in
     let second : IsWay n (reverse (swapped j x)) (swapped j x) (w ++ generator i ∷ []) =
-    IsWay-append (reverse (swapped j x)) in_y (λ e f is_e is_f before after. before-reverse in_y e f is_e is_f before) way
+    IsWay-append (reverse (swapped j x)) in_y
+    (λ e f is_e is_f before after. before-reverse in_y e f is_e is_f before) way
     (cross i low high last_turns (arrive ends)) in
-    let begins : EquivalentOn n (delta_word n) (generator j ∷ w) = EquivalentOn-ways in_z in_x (IsWay-delta in_x) first in
+    let begins : EquivalentOn n (delta_word n) (generator j ∷ w) =
+    EquivalentOn-ways in_z in_x (IsWay-delta in_x) first in
     let finishes : EquivalentOn n (w ++ generator i ∷ []) (delta_word n) =
     EquivalentOn-ways in_end in_y second (IsWay-delta in_y) in
     EquivalentOn-trans (EquivalentOn-before (generator i ∷ []) ((low, high), tt) begins)
@@ -190,10 +195,12 @@ pub EquivalentOn-delta_pass
     : (n : ℕ) (w : List Letter)
     → IsOn n w
     → EquivalentOn n (delta_word n ++ w) (map (mirrored n) w ++ delta_word n)
-EquivalentOn-delta_pass n [] on = rw (append-nil (delta_word n)) (stay (IsOn-way (IsWay-delta (IsOrder-identity n))))
+EquivalentOn-delta_pass n [] on =
+    rw (append-nil (delta_word n)) (stay (IsOn-way (IsWay-delta (IsOrder-identity n))))
 EquivalentOn-delta_pass n (c ∷ w) on =
     let first = EquivalentOn-before w on.1 (EquivalentOn-delta_letter n c.index c.negative on.0.0 on.0.1) in
-    let moved : EquivalentOn n (delta_word n ++ c ∷ w) (mirrored n c ∷ (delta_word n ++ w)) = rw append_assoc at first in
+    let moved : EquivalentOn n (delta_word n ++ c ∷ w) (mirrored n c ∷ (delta_word n ++ w)) =
+    rw append_assoc at first in
     EquivalentOn-trans moved
     (EquivalentOn-after (mirrored n c ∷ []) ((omega (arith, on.0), omega (arith, on.0)), tt)
     (EquivalentOn-delta_pass n w on.1))
@@ -250,8 +257,10 @@ composed-flip {n} {x} {p} in_x in_p =
     let size = in_x.size in
     let inside = in_p.within (n + 1 - k) (omega arith) (omega arith) in
     let turned = entry-flip n k p in_p.size least fits in
-    let back = entry-reverse x (n + 1 - entry p (n + 1 - k)) (omega (arith, inside)) (omega (arith, inside, size)) in
-    let e : length x + 1 - (n + 1 - entry p (n + 1 - k)) ≡ entry p (n + 1 - k) = omega (arith, inside, size) in
+    let back = entry-reverse x (n + 1 - entry p (n + 1 - k)) (omega (arith, inside))
+    (omega (arith, inside, size)) in
+    let e : length x + 1 - (n + 1 - entry p (n + 1 - k)) ≡ entry p (n + 1 - k) =
+    omega (arith, inside, size) in
     let last = entry-reverse (composed x p) k least (omega (arith, whole.size, fits)) in
     let f : length (composed x p) + 1 - k ≡ n + 1 - k = omega (arith, whole.size) in
     entry-composed (reverse x) flipped k least fits
@@ -270,7 +279,8 @@ EquivalentOn-flip {n} {p} {u} {v} order one two =
     let x = identity n in
     let in_x = IsOrder-identity n in
     let in_z = IsOrder-composed in_x order in
-    EquivalentOn-ways (IsOrder-reverse in_z) (IsOrder-reverse in_x) (IsWay-mirrored in_z in_x (IsWay-word in_x order one))
+    EquivalentOn-ways (IsOrder-reverse in_z) (IsOrder-reverse in_x)
+    (IsWay-mirrored in_z in_x (IsWay-word in_x order one))
     (rw (composed-flip in_x order) at (IsWay-word (IsOrder-reverse in_x) (IsOrder-flip order) two))
 
 -- ---- Inverse letters ----
@@ -286,11 +296,15 @@ composed_identity_left {n} {p} order =
     entry-composed (identity n) order i low fits ∙ entry-identity n (entry p i) inside.0 inside.1)
 
 -- the word of the half turn's arrangement is a word of the half turn
-pub EquivalentOn-half_turn : {n : ℕ} {u : List Letter} → IsWordOf n (half_turn n) u → EquivalentOn n u (delta_word n)
+pub EquivalentOn-half_turn
+    : {n : ℕ} {u : List Letter}
+    → IsWordOf n (half_turn n) u
+    → EquivalentOn n u (delta_word n)
 EquivalentOn-half_turn {n} {u} word =
     let in_x = IsOrder-identity n in
     let in_z = IsOrder-half_turn n in
-    let way : IsWay n (half_turn n) (identity n) u = rw (composed_identity_left in_z) at (IsWay-word in_x in_z word) in
+    let way : IsWay n (half_turn n) (identity n) u =
+    rw (composed_identity_left in_z) at (IsWay-word in_x in_z word) in
     EquivalentOn-ways in_z in_x way (IsWay-delta in_x)
 
 -- an inverse letter is the half turn without that letter in front, before an inverse half turn
@@ -309,7 +323,8 @@ EquivalentOn-inverse_letter {n} i {u} low high word =
     let front = IsWordOf-front whole i low high left v_is word in
     let split : EquivalentOn n (generator i ∷ u) (delta_word n) =
     EquivalentOn-trans (EquivalentOn-sym front) (EquivalentOn-half_turn v_is) in
-    let rest : EquivalentOn n u (letter i true ∷ delta_word n) = EquivalentOn-solve_left (generator i ∷ []) u split in
+    let rest : EquivalentOn n u (letter i true ∷ delta_word n) =
+    EquivalentOn-solve_left (generator i ∷ []) u split in
     EquivalentOn-solve_right (letter i true ∷ []) (delta_word n) (EquivalentOn-sym rest)
 
 -- ---- Letters before inverse half turns ----
@@ -325,4 +340,5 @@ EquivalentOn-inverse_delta_pass n c on =
     EquivalentOn-solve_left (delta_word n) (c ∷ []) passed in
     let whole : EquivalentOn n ((inverse (delta_word n) ++ mirrored n c ∷ []) ++ delta_word n) (c ∷ []) =
     rw (append_assoc (inverse (delta_word n)) (mirrored n c ∷ []) (delta_word n)) (EquivalentOn-sym solved) in
-    EquivalentOn-sym (EquivalentOn-solve_right (inverse (delta_word n) ++ mirrored n c ∷ []) (delta_word n) whole)
+    EquivalentOn-sym
+    (EquivalentOn-solve_right (inverse (delta_word n) ++ mirrored n c ∷ []) (delta_word n) whole)

@@ -13,7 +13,8 @@ use Rattle.perm_braid.specs.Arrangements.{entry, swapped, IsOrder}
 use Rattle.perm_braid.specs.SimpleWords.{generator}
 use Rattle.perm_braid.proofs.SwapLemmas.{entry-swapped_here, entry-swapped_next, entry-swapped_other, IsOrder-swapped}
 use Rattle.perm_braid.proofs.SortingLemmas.{swapped_far, swapped_near, swapped-swapped}
-use Rattle.garside_form.proofs.SettleLemmas.{IsBefore, neighbours_before, IsBetween}
+use Rattle.garside_form.proofs.LeadingLemmas.{IsBefore, neighbours_before}
+use Rattle.garside_form.proofs.SettleLemmas.{IsBetween}
 use Rattle.garside_form.proofs.LevelLemmas.{IsOrder-reverse, IsBetween-reverse, IsSame, in_front, push, IsSame-push, IsSame-in_front, IsSame-trans, IsSame-sym, AreOrders-in_front, push-merge, push-half_turn}
 use Rattle.garside_form.proofs.WordLevelLemmas.{turned_by, IsOrder-turned, lower, taken, negatives, levels, lower_fits, AreOrders-levels, IsSettledFrom-levels, levels-more, arrive, cross, levels-ways}
 
@@ -83,6 +84,10 @@ IsSame-commutation {n} {x} i j w d far low high order on =
     ) at turned_k
 
 -- neighbouring letters braid
+--
+-- Both sides lead from x to one order z (`swapped_near`), in which the three strands stand turned. Each
+-- letter of either side crosses two strands that z has turned, so both are ways from x to z, and ways with
+-- the same ends have the same levels (`levels-ways`).
 IsSame-braiding
     : {n : ℕ} {x : List ℕ} (i j : ℕ) (w : List Letter) (d : ℕ)
     → j ≡ i + 1
@@ -99,7 +104,8 @@ IsSame-braiding {n} {x} i j w d next low high order on =
     (cross j low_j high (rw (a_j, a_k, ← z_i, ← z_k) (rises i (j + 1) low (omega arith) (omega arith)))
     (cross i low high_i (turns_own i in_b low high_i) (arrive refl))))
     (cross j low_j high (rw (← z_i, ← z_j) (rises i j low (omega arith) (omega arith)))
-    (cross i low high_i (rw (← next, c_j, c_i, ← z_i, ← z_k) (rises i (j + 1) low (omega arith) (omega arith)))
+    (cross i low high_i
+    (rw (← next, c_j, c_i, ← z_i, ← z_k) (rises i (j + 1) low (omega arith) (omega arith)))
     (cross j low_j high (rw (e_k, e_j, ← z_j, ← z_k) (rises j (j + 1) low_j (omega arith) (omega arith)))
     (arrive (sym (swapped_near i j x low next (omega (arith, order.size, high))))))))
   where
@@ -190,7 +196,8 @@ collapse {n} {x} {y} q w e is fits in_x in_q on =
     (IsSame-sym (levels-more w on e x fits in_x))))
   where
     between : IsBetween n (reverse (turned_by e x)) q (turned_by e x)
-    between = rw (reverse-reverse (turned_by e x)) at (IsBetween-reverse q (IsOrder-reverse (IsOrder-turned e in_x)))
+    between = rw (reverse-reverse (turned_by e x)) at (IsBetween-reverse q
+        (IsOrder-reverse (IsOrder-turned e in_x)))
 
 -- a letter beside its inverse is nothing
 IsSame-cancellation
@@ -230,7 +237,8 @@ IsSame-relation (cancellation i b) w d fits on_r order on =
 -- words that give one sequence do so behind a word
 IsSame-behind
     : {n : ℕ} (a u v : List Letter)
-    → ((d : ℕ) (x : List ℕ) → negatives u ≤ d → negatives v ≤ d → IsOrder n x → IsSame (levels u d x) (levels v d x))
+    → ((d : ℕ) (x : List ℕ) → negatives u ≤ d → negatives v ≤ d → IsOrder n x
+    → IsSame (levels u d x) (levels v d x))
     → (d : ℕ) (x : List ℕ)
     → negatives (a ++ u) ≤ d
     → negatives (a ++ v) ≤ d

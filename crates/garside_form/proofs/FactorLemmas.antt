@@ -16,7 +16,8 @@ use Rattle.perm_braid.proofs.SimpleWordLemmas.{word_exists, word_unique, IsOn-wo
 use Rattle.garside_form.specs.NormalForms.{IsProduct, empty, factor}
 use Rattle.garside_form.specs.FactorLists.{EachOrder, AreGreedy, KeepsFactors}
 use Rattle.garside_form.proofs.LevelLemmas.{IsOrder-reverse}
-use Rattle.garside_form.proofs.UniqueLemmas.{IsOn-product, product_unique}
+use Rattle.garside_form.proofs.NaturalLevelLemmas.{IsOn-product}
+use Rattle.garside_form.proofs.UniqueLemmas.{product_unique}
 use Rattle.garside_form.proofs.DeltaLemmas.{EquivalentOn-half_turn}
 
 -- ---- Products ----
@@ -64,7 +65,8 @@ KeepsFactors-front
     → KeepsProduct n p q r s
     → KeepsFactors n (p ∷ q ∷ ps) (r ∷ s ∷ ps)
 KeepsFactors-front n p q r s ps keeps _ _
-    (factor {u = a} p_is (factor {u = b} {w = u} q_is one)) (factor {u = c} r_is (factor {u = d} {w = v} s_is two)) =
+    (factor {u = a} p_is (factor {u = b} {w = u} q_is one))
+    (factor {u = c} r_is (factor {u = d} {w = v} s_is two)) =
     let both = EquivalentOn-before v (IsOn-product two) (keeps a b c d p_is q_is r_is s_is) in
     rw (product_unique one two) (rw (append_assoc a b v, append_assoc c d v) at both)
 
@@ -75,7 +77,8 @@ pub KeepsFactors-pair
     → KeepsFactors n (front ++ p ∷ q ∷ ps) (front ++ r ∷ s ∷ ps)
 KeepsFactors-pair n [] p q r s ps keeps = KeepsFactors-front n p q r s ps keeps
 KeepsFactors-pair n (o ∷ front) p q r s ps keeps =
-    KeepsFactors-cons n o (front ++ p ∷ q ∷ ps) (front ++ r ∷ s ∷ ps) (KeepsFactors-pair n front p q r s ps keeps)
+    KeepsFactors-cons n o (front ++ p ∷ q ∷ ps) (front ++ r ∷ s ∷ ps)
+    (KeepsFactors-pair n front p q r s ps keeps)
 
 -- the half turn in front of others is its word in front of theirs
 pub product_half_turn
@@ -84,7 +87,8 @@ pub product_half_turn
     → IsProduct n ps w
     → EquivalentOn n u (delta_word n ++ w)
 product_half_turn n ps {u} {w} (factor {w = v} word rest) product =
-    rw (product_unique rest product) (EquivalentOn-before w (IsOn-product product) (EquivalentOn-half_turn word))
+    rw (product_unique rest product)
+    (EquivalentOn-before w (IsOn-product product) (EquivalentOn-half_turn word))
 
 -- the identity behind others adds nothing
 pub product_identity
@@ -107,7 +111,10 @@ pub record IsSplit (n : ℕ) (ps qs : List (List ℕ)) (w : List Letter) : Type 
   pub is : w ≡ u ++ v
 
 -- a word of two lists in a row is a word of each
-pub product_split : (n : ℕ) (ps qs : List (List ℕ)) (w : List Letter) → IsProduct n (ps ++ qs) w → IsSplit n ps qs w
+pub product_split
+    : (n : ℕ) (ps qs : List (List ℕ)) (w : List Letter)
+    → IsProduct n (ps ++ qs) w
+    → IsSplit n ps qs w
 product_split n [] qs w product = record { u = []; v = w; first = empty; second = product; is = refl }
 product_split n (p ∷ ps) qs _ (factor {u = a} {w = b} word rest) =
     let split = product_split n ps qs b rest in

@@ -1,8 +1,8 @@
 -- Simple braids turned by half a turn.
 --
--- A simple braid behind a half turn is its flip before it. Flips of a greedy list are greedy (`AreGreedy-flip`),
--- and what is neither the identity nor the half turn isn't after a flip either. What a list spells, with each
--- index turned, is what the flips spell (`product_flip`).
+-- A simple braid behind a half turn is its flip before it. Flips of a greedy list are greedy
+-- (`AreGreedy-flip`), and what is neither the identity nor the half turn isn't after a flip either. What a
+-- list spells, with each index turned, is what the flips spell (`product_flip`).
 use Rattle.std.proofs.Common.{ℕ, ◌≡◌, ◌+◌, ◌-◌, ◌<◌, ◌≤◌, ◌∙◌, Bool, true, false, List, [], ◌∷◌, ◌++◌, append-nil, map, sym, ap, arith}
 use Rattle.std.proofs.lemmas.List.{map-append}
 use Rattle.braid_word.specs.Words.{Letter}
@@ -15,7 +15,7 @@ use Rattle.perm_braid.proofs.PlaceLemmas.{same_entries, place_of-from, IsOrder-i
 use Rattle.perm_braid.proofs.SwapLemmas.{entry-flip, Undoes-flip, IsOrder-flip}
 use Rattle.garside_form.specs.NormalForms.{IsProduct, empty, factor}
 use Rattle.garside_form.specs.FactorLists.{EachOrder, AreGreedy, KeepsFactors, EndsCrossed, BeginsShort, IsReady, turned_factors}
-use Rattle.garside_form.proofs.UniqueLemmas.{IsOn-product, IsOn-delta}
+use Rattle.garside_form.proofs.NaturalLevelLemmas.{IsOn-product, IsOn-delta}
 use Rattle.garside_form.proofs.FactorLemmas.{product_exists, product_split, product_half_turn}
 use Rattle.garside_form.proofs.DeltaLemmas.{mirrored, EquivalentOn-delta_pass, EquivalentOn-flip}
 
@@ -128,25 +128,40 @@ EachOrder-flip n [] orders = tt
 EachOrder-flip n (p ∷ ps) orders = (IsOrder-flip orders.0, EachOrder-flip n ps orders.1)
 
 -- a greedy list stays greedy
-pub AreGreedy-flip : (n : ℕ) (ps : List (List ℕ)) → EachOrder n ps → AreGreedy n ps → AreGreedy n (map flip ps)
+pub AreGreedy-flip
+    : (n : ℕ) (ps : List (List ℕ))
+    → EachOrder n ps
+    → AreGreedy n ps
+    → AreGreedy n (map flip ps)
 AreGreedy-flip n [] orders greedy = tt
 AreGreedy-flip n (p ∷ []) orders greedy = tt
 AreGreedy-flip n (p ∷ q ∷ ps) orders greedy =
     (IsGreedy-flip orders.0 orders.1.0 greedy.0, AreGreedy-flip n (q ∷ ps) orders.1 greedy.1)
 
 -- its last is no identity where it was none
-pub EndsCrossed-flip : (n : ℕ) (ps : List (List ℕ)) → EachOrder n ps → EndsCrossed n ps → EndsCrossed n (map flip ps)
+pub EndsCrossed-flip
+    : (n : ℕ) (ps : List (List ℕ))
+    → EachOrder n ps
+    → EndsCrossed n ps
+    → EndsCrossed n (map flip ps)
 EndsCrossed-flip n [] orders ends = tt
 EndsCrossed-flip n (p ∷ []) orders ends = λ is. ends (identity_flipped orders.0 is)
 EndsCrossed-flip n (p ∷ q ∷ ps) orders ends = EndsCrossed-flip n (q ∷ ps) orders.1 ends
 
 -- its first is no half turn where it was none
-pub BeginsShort-flip : (n : ℕ) (ps : List (List ℕ)) → EachOrder n ps → BeginsShort n ps → BeginsShort n (map flip ps)
+pub BeginsShort-flip
+    : (n : ℕ) (ps : List (List ℕ))
+    → EachOrder n ps
+    → BeginsShort n ps
+    → BeginsShort n (map flip ps)
 BeginsShort-flip n [] orders begins = tt
 BeginsShort-flip n (p ∷ ps) orders begins = λ is. begins (half_turn_flipped orders.0 is)
 
 -- a list that is ready stays so
-pub IsReady-turned : (n : ℕ) (odd : Bool) (ps : List (List ℕ)) → IsReady n ps → IsReady n (turned_factors odd ps)
+pub IsReady-turned
+    : (n : ℕ) (odd : Bool) (ps : List (List ℕ))
+    → IsReady n ps
+    → IsReady n (turned_factors odd ps)
 IsReady-turned n false ps ready = ready
 IsReady-turned n true ps ready = record {
   orders = EachOrder-flip n ps ready.orders;
@@ -191,5 +206,6 @@ KeepsFactors-half_turn n ps orders u v one two =
     let last : EquivalentOn n split.v (delta_word n) =
     rw (append-nil (delta_word n)) at (product_half_turn n [] split.second empty) in
     rw split.is
-    (EquivalentOn-trans (product_half_turn n ps one is) (EquivalentOn-trans (product_behind orders is split.first)
+    (EquivalentOn-trans (product_half_turn n ps one is)
+    (EquivalentOn-trans (product_behind orders is split.first)
     (EquivalentOn-after split.u (IsOn-product split.first) (EquivalentOn-sym last))))

@@ -19,7 +19,8 @@ two_turns = refl
 turns_behind : half_turns 2 1 2 ≡ letter 1 true ∷ letter 1 true ∷ generator 1 ∷ []
 turns_behind = refl
 
--- `-1` on 3 strands: the half turn without its first letter, before an inverse half turn; behind that it is `2 3 1`
+-- `-1` on 3 strands: the half turn without its first letter, before an inverse half turn; behind that it is
+-- `2 3 1`
 inverse_letter : letter_factor 3 1 true ≡ 3 ∷ 1 ∷ 2 ∷ []
 inverse_letter = refl
 

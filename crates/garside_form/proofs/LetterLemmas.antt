@@ -1,9 +1,9 @@
 -- Letters taken in at the end of a list of simple braids, before half turns.
 --
--- A letter passes the half turns, which turn its index where their number is odd. Then it is a simple braid at
--- the end of the list, or a simple braid and one inverse half turn more (`IsSpelledBy-letter`). A half turn that
--- comes out when the simple braid is taken in is counted (`IsSpelledBy-taken`). `read_next` is one turn of
--- the loop over the letters.
+-- A letter passes the half turns, which turn its index where their number is odd. Then it is a simple braid
+-- at the end of the list, or a simple braid and one inverse half turn more (`IsSpelledBy-letter`). A half
+-- turn that comes out when the simple braid is taken in is counted (`IsSpelledBy-taken`). `read_next` is one
+-- turn of the loop over the letters.
 use Rattle.std.proofs.Common.{ℕ, zero, suc, ◌≡◌, ◌+◌, ◌<◌, ◌≤◌, ◌∙◌, Bool, true, false, not, List, [], ◌∷◌, ◌++◌, append_assoc, append-nil, length, take, drop, get_or, refl, sym, ap, subst, arith}
 use mathlib.Core.Bool.{beq}
 use Rattle.std.proofs.Math.Seq.{take-suc}
@@ -18,7 +18,8 @@ use Rattle.perm_braid.proofs.SwapLemmas.{IsOrder-swapped, IsOrder-values_swapped
 use Rattle.perm_braid.proofs.SimpleWordLemmas.{word_exists, IsWordOf-end}
 use Rattle.garside_form.specs.NormalForms.{times, empty, factor}
 use Rattle.garside_form.specs.FactorLists.{EachOrder, AreGreedy, BeginsShort, KeepsFactors, IsReady, IsTakenIn, IsSpelledBy, half_turns, half_turn_if, is_odd, turned_index, letter_factor}
-use Rattle.garside_form.proofs.UniqueLemmas.{IsOn-product, product_unique}
+use Rattle.garside_form.proofs.NaturalLevelLemmas.{IsOn-product}
+use Rattle.garside_form.proofs.UniqueLemmas.{product_unique}
 use Rattle.garside_form.proofs.DeltaLemmas.{EquivalentOn-inverse_letter}
 use Rattle.garside_form.proofs.FactorLemmas.{product_exists, product_split, product_append, product_half_turn}
 use Rattle.garside_form.proofs.PassLemmas.{orders_append}
@@ -68,7 +69,8 @@ pub identity_fits
     → 1 ≤ i
     → i < n
     → (i < length p) × (IsRightDescent p i → ⊥)
-identity_fits n i p is low high = let all = length-identity n in rw is (omega (arith, all), identity_climbs n i low high)
+identity_fits n i p is low high = let all =
+    length-identity n in rw is (omega (arith, all), identity_climbs n i low high)
 
 -- a letter is its simple braid, before one inverse half turn where it is an inverse
 EquivalentOn-letter_factor
@@ -81,7 +83,8 @@ EquivalentOn-letter_factor n i true {u} low high word =
     rw (append-nil (inverse (delta_word n))) (EquivalentOn-inverse_letter i low high word)
 EquivalentOn-letter_factor n i false {u} low high word =
     rw (append-nil u)
-    (EquivalentOn-sym (IsWordOf-end (IsOrder-identity n) i low high (identity_climbs n i low high) (nothing refl) word))
+    (EquivalentOn-sym
+    (IsWordOf-end (IsOrder-identity n) i low high (identity_climbs n i low high) (nothing refl) word))
 
 -- ---- One letter more ----
 
@@ -93,7 +96,8 @@ IsSpelledBy-letter
     → odd ≡ is_odd (d + m)
     → EachOrder n ps
     → IsSpelledBy n w ps d m
-    → IsSpelledBy n (w ++ letter i b ∷ []) (ps ++ letter_factor n (turned_index n odd i) b ∷ []) d (m + count_of b)
+    → IsSpelledBy n (w ++ letter i b ∷ []) (ps ++ letter_factor n (turned_index n odd i) b ∷ []) d
+    (m + count_of b)
 IsSpelledBy-letter n d m i odd b w ps low high parity orders spelled x product =
     let j = turned_index n odd i in
     let (low_j, high_j) = turned_within n i odd low high in
@@ -111,11 +115,13 @@ IsSpelledBy-letter n d m i odd b w ps low high parity orders spelled x product =
     let two : EquivalentOn n (u ++ (t ++ c ∷ [])) (u ++ letter j b ∷ t) =
     EquivalentOn-after u on_u (turn.passes i b low high) in
     let three : EquivalentOn n (u ++ (letter j b ∷ [] ++ t)) (u ++ ((v ++ back) ++ t)) =
-    EquivalentOn-after u on_u (EquivalentOn-before t turn.on (EquivalentOn-letter_factor n j b low_j high_j word)) in
+    EquivalentOn-after u on_u
+    (EquivalentOn-before t turn.on (EquivalentOn-letter_factor n j b low_j high_j word)) in
     let ends : u ++ ((v ++ back) ++ t) ≡ x ++ half_turns n d (m + count_of b) =
     ap (λ y. u ++ y) (append_assoc v back t ∙ ap (λ y. v ++ y) (half_turns_fewer n d m b))
     ∙ (sym (append_assoc u v (half_turns n d (m + count_of b)))
-    ∙ ap (λ y. y ++ half_turns n d (m + count_of b)) (ap (λ y. u ++ y) (sym (last ∙ append-nil v)) ∙ sym split.is)) in
+    ∙ ap (λ y. y ++ half_turns n d (m + count_of b))
+    (ap (λ y. u ++ y) (sym (last ∙ append-nil v)) ∙ sym split.is)) in
     EquivalentOn-trans (subst (λ y. EquivalentOn n (w ++ c ∷ []) y) (append_assoc u t (c ∷ [])) one)
     (EquivalentOn-trans two (subst (λ y. EquivalentOn n (u ++ letter j b ∷ t) y) ends three))
 
@@ -139,7 +145,8 @@ IsSpelledBy-taken n d m true w ps qs orders keeps spelled v two =
     let t = half_turns n d m in
     let on_t = (IsTurn-half_turns n d m).on in
     let e : d + 1 ≡ suc d = omega arith in
-    let first : EquivalentOn n x (delta_word n) = rw (append-nil (delta_word n)) at (product_half_turn n [] turn empty) in
+    let first : EquivalentOn n x (delta_word n) =
+    rw (append-nil (delta_word n)) at (product_half_turn n [] turn empty) in
     let taken : EquivalentOn n (u ++ t) ((v ++ x) ++ t) =
     EquivalentOn-before t on_t (keeps u (v ++ x) one (product_append n qs (half_turn n ∷ []) v x two turn)) in
     let counted : EquivalentOn n (v ++ (x ++ t)) (v ++ half_turns n (suc d) m) =
@@ -162,14 +169,18 @@ IsSpelledBy-kept n d m w ps qs orders keeps spelled v two =
 
 -- ---- The loop over the letters ----
 
--- Where the loop stands: the word read so far, the list, the half turns behind it, and whether their number is odd.
+-- Where the loop stands: the word read so far, the list, the half turns behind it, and whether their number
+-- is odd.
 pub record IsRead (n : ℕ) (w : List Letter) (ps : List (List ℕ)) (d m : ℕ) (odd : Bool) : Type 0 where
   pub spelled : IsSpelledBy n w ps d m
   pub ready : IsReady n ps
   pub parity : odd ≡ is_odd (d + m)
 
 -- at first nothing was read
-pub read_begins : (n : ℕ) (word : List Letter) (ps : List (List ℕ)) → ps ≡ [] → IsRead n (take 0 word) ps 0 0 false
+pub read_begins
+    : (n : ℕ) (word : List Letter) (ps : List (List ℕ))
+    → ps ≡ []
+    → IsRead n (take 0 word) ps 0 0 false
 read_begins n word ps none = rw none (record {
   spelled = start;
   ready = record { orders = tt; greedy = tt; begins = tt; ends = tt };
@@ -240,18 +251,21 @@ pub read_next
     → r ≡ count_of negative
     → t ≡ count_of turned
     → IsRead n (take (k + 1) word) qs (d + t) (m + r) (not (beq (not (beq odd negative)) turned))
-read_next n k d m r t i word c e odd negative turned ps taken qs p on within is sign index fac read owed ready keeps inverses turns =
+read_next n k d m r t i word c e odd negative turned ps taken qs p on within is sign index fac read owed ready
+    keeps inverses turns =
     let (low, high) = letter_within n k word c e on within is in
     let (low_i, high_i) = turned_within n c.index odd low high in
     let factor_is : p ≡ letter_factor n (turned_index n odd c.index) c.negative =
     fac ∙ (ap (λ b. letter_factor n i b) (sym sign) ∙ ap (λ l. letter_factor n l c.negative) index) in
-    let order : IsOrder n p = rw factor_is (IsOrder-letter_factor n (turned_index n odd c.index) c.negative low_i high_i) in
+    let order : IsOrder n p =
+    rw factor_is (IsOrder-letter_factor n (turned_index n odd c.index) c.negative low_i high_i) in
     let here : IsTakenIn n (ps ++ p ∷ []) taken turned =
     subst (λ l. IsTakenIn l (ps ++ p ∷ []) taken turned) order.size owed in
     let count_m : r ≡ count_of c.negative = inverses ∙ ap count_of (sym sign) in
     let begun : IsSpelledBy n (take k word ++ letter c.index c.negative ∷ [])
     (ps ++ letter_factor n (turned_index n odd c.index) c.negative ∷ []) d (m + count_of c.negative) =
-    IsSpelledBy-letter n d m c.index odd c.negative (take k word) ps low high read.parity read.ready.orders read.spelled in
+    IsSpelledBy-letter n d m c.index odd c.negative (take k word) ps low high read.parity read.ready.orders
+    read.spelled in
     let first : IsSpelledBy n (take (k + 1) word) (ps ++ p ∷ []) d (m + r) =
     rw (take_next k word c e within is, factor_is, count_m) begun in
     let second : IsSpelledBy n (take (k + 1) word) taken (d + count_of turned) (m + r) =
@@ -259,7 +273,8 @@ read_next n k d m r t i word c e odd negative turned ps taken qs p on within is 
     (orders_append n ps (p ∷ []) read.ready.orders (order, tt)) here.keeps first in
     let sum : d + m + r + t ≡ (d + t) + (m + r) = omega arith in
     record {
-      spelled = rw turns (IsSpelledBy-kept n (d + count_of turned) (m + r) (take (k + 1) word) taken qs here.orders
+      spelled = rw turns (IsSpelledBy-kept n (d + count_of turned) (m + r) (take (k + 1) word) taken qs
+          here.orders
           (keeps n here.orders) second);
       ready = ready n here.orders here.greedy here.begins;
       parity = parity_more (d + m + r) t (not (beq odd negative)) turned

@@ -12,7 +12,8 @@ use Rattle.perm_braid.specs.Arrangements.{entry, place_of, swapped, IsOrder}
 use Rattle.perm_braid.proofs.PlaceLemmas.{entry-reverse, place_low, Undoes, place_of-from, IsOrder-from, IsOrder-entry}
 use Rattle.perm_braid.proofs.SwapLemmas.{IsOrder-swapped, entry-swapped_here, entry-swapped_next}
 use Rattle.garside_form.proofs.SortLemmas.{Leads, done, turn}
-use Rattle.garside_form.proofs.SettleLemmas.{IsBefore, IsStrand, before_or, neighbours_before, before_differ, descends, descends_from, leads_to, settle, IsSettled, IsOrder-settle, IsSettled-settle, settle-along, settle-is, settle-settled, settle-turned, IsSettled-from, settled_at, settle-all, IsBetween, turned_stays, settle-merge}
+use Rattle.garside_form.proofs.LeadingLemmas.{IsBefore, IsStrand, before_or, neighbours_before, descends, descends_from, leads_to}
+use Rattle.garside_form.proofs.SettleLemmas.{before_differ, settle, IsSettled, IsOrder-settle, IsSettled-settle, settle-along, settle-is, settle-settled, settle-turned, IsSettled-from, settled_at, settle-all, IsBetween, turned_stays, settle-merge}
 
 -- ---- The order backwards ----
 
@@ -21,7 +22,8 @@ Undoes-reverse : {n : ℕ} {a : List ℕ} → IsOrder n a → Undoes n (reverse 
 Undoes-reverse {n} {a} order = record {
   size = length-reverse a ∙ order.size;
   within = λ i low high. rw (at i low high) (order.within (n + 1 - i) (omega arith) (omega arith));
-  back = λ i low high. rw (at i low high, order.distinct (n + 1 - i) (omega arith) (omega arith)) (omega arith);
+  back = λ i low high. rw (at i low high, order.distinct (n + 1 - i) (omega arith) (omega arith))
+      (omega arith);
   forth = λ e low high.
       let least = place_low a e in
       let most = order.has e low high in
@@ -90,7 +92,8 @@ settle-half_turn {n} {x} {y} first second =
     settle-is x y (reverse x) (reverse y)
     (leads_to (descends x (reverse y)) second back
     (λ e f one two before after.
-    descends_from x (reverse y) e f (before-reversed first e f one two after) (before-reverse second e f one two before)))
+    descends_from x (reverse y) e f (before-reversed first e f one two after)
+    (before-reverse second e f one two before)))
     (IsSettled-from x (reverse y) back
     (λ i low high before after.
     let one = back.within i low (omega arith) in
@@ -158,7 +161,11 @@ AreOrders-push {n} {l} x orders zero = IsOrder-settle x (l 1) (orders 0)
 AreOrders-push {n} {l} x orders (suc k) = IsOrder-settle (push x l k) (l (suc (suc k))) (orders (suc k))
 
 -- so does one order in front
-pub AreOrders-in_front : {n : ℕ} {l : Levels} {y : List ℕ} → IsOrder n y → AreOrders n l → AreOrders n (in_front y l)
+pub AreOrders-in_front
+    : {n : ℕ} {l : Levels} {y : List ℕ}
+    → IsOrder n y
+    → AreOrders n l
+    → AreOrders n (in_front y l)
 AreOrders-in_front order orders zero = order
 AreOrders-in_front order orders (suc k) = orders k
 
@@ -202,7 +209,8 @@ merge_between
 merge_between {n} {x} {y} {l} in_x in_y orders between zero =
     IsBetween-settle in_x in_y (orders 0) (orders 1) between
 merge_between {n} {x} {y} {l} in_x in_y orders between (suc k) =
-    IsBetween-settle (AreOrders-push x orders k) (AreOrders-push y orders k) (orders (suc k)) (orders (suc (suc k)))
+    IsBetween-settle (AreOrders-push x orders k) (AreOrders-push y orders k) (orders (suc k))
+    (orders (suc (suc k)))
     (merge_between in_x in_y orders between k)
 
 -- two simple braids taken in one after the other are taken in as one
@@ -217,12 +225,17 @@ push-merge {n} {x} {y} {l} in_x in_y orders between zero =
     settle-merge in_x in_y (orders 0) (orders 1) between
 push-merge {n} {x} {y} {l} in_x in_y orders between (suc k) =
     rw (push-merge in_x in_y orders between k)
-    (settle-merge (AreOrders-push x orders k) (AreOrders-push y orders k) (orders (suc k)) (orders (suc (suc k)))
+    (settle-merge (AreOrders-push x orders k) (AreOrders-push y orders k) (orders (suc k))
+    (orders (suc (suc k)))
     (merge_between in_x in_y orders between k))
 
 -- ---- Settled sequences ----
 
 -- the order before one that is settled stays settled
+--
+-- Let p be y settled between x and l, q be l settled between p and m, and e and f neighbours in p that could
+-- still be exchanged. Settled between y and q the order p becomes l (`settle-merge`), and the exchange of e
+-- and f can come first there: so they stand turned in l, but as in p there, too, since p is settled before l.
 settle-domino
     : {n : ℕ} {x y l m : List ℕ}
     → IsOrder n x
@@ -258,10 +271,12 @@ settle-domino {n} {x} {y} {l} {m} in_x in_y in_l in_m settled =
         let between : IsBetween n y p l =
         (λ a b is_a is_b first second. turned_stays x l in_y b a is_b is_a first
         (λ _ wrong. absurd (omega (arith, wrong, second)))) in
-        let whole : settle y p q ≡ l = settle-merge in_y in_p in_l in_m between ∙ settle-settled y l m settled in
+        let whole : settle y p q ≡ l =
+        settle-merge in_y in_p in_l in_m between ∙ settle-settled y l m settled in
         let turned = IsOrder-swapped in_p i low high in
         let leads : Leads (descends y q) p (swapped i p) =
-        turn i (i + 1) low refl (omega (arith, in_p.size, high)) (descends_from y q e f in_middle after) done in
+        turn i (i + 1) low refl (omega (arith, in_p.size, high)) (descends_from y q e f in_middle after)
+        done in
         let along : settle y p q ≡ settle y (swapped i p) q = settle-along y p (swapped i p) q leads in
         let crossed : IsBefore (swapped i p) f e =
         rw (
@@ -293,7 +308,11 @@ IsSettledFrom-push {n} {x} {y} {l} in_x in_y orders settled (suc k) =
 -- ---- Half turns and trivial steps in front ----
 
 -- a step that stays is none
-pub push-same : {n : ℕ} {y : List ℕ} {l : Levels} → IsOrder n y → AreOrders n l → IsSame (push y (in_front y l)) l
+pub push-same
+    : {n : ℕ} {y : List ℕ} {l : Levels}
+    → IsOrder n y
+    → AreOrders n l
+    → IsSame (push y (in_front y l)) l
 push-same order orders zero = settle-all order (orders 0)
 push-same {n} {y} {l} order orders (suc k) =
     rw (push-same order orders k) (settle-all (orders k) (orders (suc k)))

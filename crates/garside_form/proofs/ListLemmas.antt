@@ -63,7 +63,8 @@ pass_turn n start front f stack more o carry t u pass short is moves greedy grow
     let size = (pass_last n start front f o carry (reverse stack) pass is).size in
     let back : reverse more ≡ u ∷ reverse stack = ap reverse grown ∙ reverse-append stack (u ∷ []) in
     subst (λ r. IsPass n start f t r) (sym back) (IsPass-step n start f o carry t u (reverse stack)
-    (subst (λ l. IsPass n start l carry (reverse stack)) is pass) (short_here n start front carry (reverse stack) pass short)
+    (subst (λ l. IsPass n start l carry (reverse stack)) is pass)
+    (short_here n start front carry (reverse stack) pass short)
     (subst (λ k. Moves k o carry t u) size moves) (subst (λ k. IsGreedy k t u) size greedy))
 
 -- moves from a pair that isn't other than greedy are none
@@ -97,7 +98,8 @@ taken_stops n start front f one two list stack o carry t u pass is moves greedy 
     ∙ (ap (λ x. f ++ x ∷ u ∷ rest) none.0 ∙ ap (λ x. f ++ o ∷ x ∷ rest) none.1)))) in
     let here : IsPass n start (f ++ o ∷ []) carry rest = subst (λ l. IsPass n start l carry rest) is pass in
     let good : IsGreedy n o carry =
-    subst (λ x. IsGreedy n x carry) none.0 (subst (λ x. IsGreedy n t x) none.1 (subst (λ k. IsGreedy k t u) order.size greedy)) in
+    subst (λ x. IsGreedy n x carry) none.0
+    (subst (λ x. IsGreedy n t x) none.1 (subst (λ k. IsGreedy k t u) order.size greedy)) in
     rw back (IsPass-stops n start f o carry rest here good)
 
 -- and where a half turn came out
@@ -113,13 +115,25 @@ taken_turns n start front list stack carry pass whole is =
 -- ---- Dropping identities ----
 
 -- a list without its last
-pub dropped_orders : (n : ℕ) (now f : List (List ℕ)) (p : List ℕ) → now ≡ f ++ p ∷ [] → EachOrder n now → EachOrder n f
+pub dropped_orders
+    : (n : ℕ) (now f : List (List ℕ)) (p : List ℕ)
+    → now ≡ f ++ p ∷ []
+    → EachOrder n now
+    → EachOrder n f
 dropped_orders n now f p is orders = orders_front n f (p ∷ []) (subst (λ l. EachOrder n l) is orders)
 
-pub dropped_greedy : (n : ℕ) (now f : List (List ℕ)) (p : List ℕ) → now ≡ f ++ p ∷ [] → AreGreedy n now → AreGreedy n f
+pub dropped_greedy
+    : (n : ℕ) (now f : List (List ℕ)) (p : List ℕ)
+    → now ≡ f ++ p ∷ []
+    → AreGreedy n now
+    → AreGreedy n f
 dropped_greedy n now f p is greedy = greedy_front n f (p ∷ []) (subst (λ l. AreGreedy n l) is greedy)
 
-pub dropped_begins : (n : ℕ) (now f : List (List ℕ)) (p : List ℕ) → now ≡ f ++ p ∷ [] → BeginsShort n now → BeginsShort n f
+pub dropped_begins
+    : (n : ℕ) (now f : List (List ℕ)) (p : List ℕ)
+    → now ≡ f ++ p ∷ []
+    → BeginsShort n now
+    → BeginsShort n f
 dropped_begins n now f p is begins = begins_front n f (p ∷ []) (subst (λ l. BeginsShort n l) is begins)
 
 -- that last has n entries
@@ -137,7 +151,8 @@ pub dropped_keeps
 dropped_keeps n start now f p is orders same keeps =
     let size = last_size n now f p is orders in
     let e : now ≡ f ++ identity n ∷ [] = is ∙ ap (λ x. f ++ x ∷ []) (same ∙ ap identity size) in
-    KeepsFactors-trans n start now f orders keeps (subst (λ l. KeepsFactors n l f) (sym e) (KeepsFactors-identity n f))
+    KeepsFactors-trans n start now f orders keeps
+    (subst (λ l. KeepsFactors n l f) (sym e) (KeepsFactors-identity n f))
 
 -- a last that isn't the identity is put back
 pub ready_last

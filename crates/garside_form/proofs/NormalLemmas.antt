@@ -1,13 +1,14 @@
 -- The body that makes the normal form of a word.
-use Rattle.std.proofs.Common.{ℕ, ◌≡◌, inl, inr, to_z, of_z, w32, ◌+◌, ◌-◌, ◌<◌, ◌≤◌, ◌∙◌, Bool, ℤ, pos, negsuc, List, ◌++◌, refl, sym, ap, subst, arith}
+use Rattle.std.proofs.Common.{ℕ, ◌≡◌, ◌↔◌, inl, inr, to_z, of_z, w32, ◌+◌, ◌-◌, ◌<◌, ◌≤◌, ◌∙◌, Bool, ℤ, pos, negsuc, List, ◌++◌, refl, sym, ap, subst, arith}
 use Rattle.std.proofs.lemmas.Bool.{cases_lt}
 use Rattle.std.proofs.lemmas.Int.{to_z-of_z, fits_signed_from_abs}
 use Rattle.braid_word.specs.Words.{Letter}
-use Rattle.braid_word.specs.Equivalence.{stay}
+use Rattle.braid_word.specs.Equivalence.{EquivalentOn, stay}
 use Rattle.braid_word.proofs.EquivalenceLemmas.{on_first, EquivalentOn-trans}
 use Rattle.garside_form.specs.NormalForms.{Form, form, delta_power, IsFormOf}
 use Rattle.garside_form.specs.FactorLists.{IsReady, IsSpelledBy, half_turns, is_odd, turned_factors}
-use Rattle.garside_form.proofs.UniqueLemmas.{IsOn-product, IsFormOf-equivalent}
+use Rattle.garside_form.proofs.NaturalLevelLemmas.{IsOn-product}
+use Rattle.garside_form.proofs.UniqueLemmas.{IsFormOf-equivalent}
 use Rattle.garside_form.proofs.FactorLemmas.{product_exists}
 use Rattle.garside_form.proofs.FlipLemmas.{IsReady-turned}
 use Rattle.garside_form.proofs.ReadyLemmas.{IsNormal-ready}
@@ -60,8 +61,23 @@ pub form_only
     → IsFormOf g w
     → g ≡ f
 form_only f g w two one same other =
-    let (powers, factors) = (IsFormOf-equivalent f g w w two (sym same) one other).1 (stay (on_first one.equivalent)) in
+    let (powers, factors) =
+    (IsFormOf-equivalent f g w w two (sym same) one other).1 (stay (on_first one.equivalent)) in
     form_same g f same (sym powers) (sym factors)
+
+-- two words have one normal form exactly where they are equivalent
+pub form_equivalent
+    : (f g : Form) (u v : List Letter)
+    → 2 ≤ f.strands
+    → f.strands ≡ g.strands
+    → IsFormOf f u
+    → IsFormOf g v
+    → (f ≡ g) ↔ EquivalentOn f.strands u v
+form_equivalent f g u v two same one other =
+    let (sound, complete) = IsFormOf-equivalent f g u v two same one other in (
+      λ alike. sound (ap (λ (z : Form). z.delta) alike, ap (λ (z : Form). z.factors) alike),
+      λ equal. form_same f g same (complete equal).0 (complete equal).1,
+    )
 
 -- a difference of numbers of this size is read back from its bits
 pub difference_read
@@ -72,6 +88,10 @@ pub difference_read
     → (d < m → z ≡ negsuc (m - d - 1))
     → to_z w32 (of_z w32 z) ≡ z
 difference_read m d z small few up down = elim (cases_lt d m) [
-  | inl less ↦ rw (down less) (to_z-of_z w32 (negsuc (m - d - 1)) (fits_signed_from_abs w32 (negsuc (m - d - 1)) (omega arith)))
-  | inr other ↦ rw (up (omega arith)) (to_z-of_z w32 (pos (d - m)) (fits_signed_from_abs w32 (pos (d - m)) (omega arith)))
+  | inl less ↦
+      rw (down less)
+      (to_z-of_z w32 (negsuc (m - d - 1)) (fits_signed_from_abs w32 (negsuc (m - d - 1)) (omega arith)))
+  | inr other ↦
+      rw (up (omega arith))
+      (to_z-of_z w32 (pos (d - m)) (fits_signed_from_abs w32 (pos (d - m)) (omega arith)))
 ]

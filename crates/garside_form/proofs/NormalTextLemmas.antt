@@ -15,7 +15,8 @@ use Rattle.garside_form.specs.NormalText.{power_text, factor_line, normal_text}
 pub entry_found : (p : List ℕ) (k x : ℕ) → k < length p → x ≡ entry p (k + 1) → slice_get p k ≡ Some x
 entry_found p k x within is =
     let e : k + 1 ≡ suc k = omega arith in
-    let here : x ≡ get_or p k x = is ∙ (ap (entry p) e ∙ (entry_get p k ∙ sym (get_or_default_zero p k x within))) in
+    let here : x ≡ get_or p k x =
+    is ∙ (ap (entry p) e ∙ (entry_get p k ∙ sym (get_or_default_zero p k x within))) in
     slice_get_read p (length p) k x refl within here
 
 -- the line of a factor

@@ -5,19 +5,24 @@
 -- Each turn makes the last of the front and the factor greedy (`IsPass-step`); where that moves nothing, or
 -- the front is empty, the whole is greedy. Where the factor is a half turn, it goes past the rest, which is
 -- flipped before it, and front and rest are greedy (`IsPass-turned`).
-use Rattle.std.proofs.Common.{ℕ, ◌≡◌, ◌∙◌, true, false, List, [], ◌∷◌, ◌++◌, length, append_assoc, append-nil, map, refl, sym, ap, subst, arith}
+use Rattle.std.proofs.Common.{ℕ, ◌≡◌, ◌∙◌, true, false, List, [], ◌∷◌, ◌++◌, append_assoc, append-nil, map, refl, sym, ap, subst}
 use Rattle.perm_braid.specs.Arrangements.{flip, half_turn, IsOrder}
 use Rattle.perm_braid.specs.GreedyPairs.{IsGreedy, Moves}
 use Rattle.perm_braid.proofs.MoveLemmas.{IsOrder-moves_first, IsOrder-moves_second, KeepsProduct-moves}
-use Rattle.garside_form.proofs.DominoLemmas.{IsGreedy-domino_right, IsGreedy-half_turn, Moves-half_turn}
+use Rattle.garside_form.proofs.GreedyLevelLemmas.{IsGreedy-domino_right, IsGreedy-half_turn, Moves-half_turn}
 use Rattle.garside_form.specs.FactorLists.{EachOrder, KeepsFactors, AreGreedy, BeginsShort, IsTakenIn}
 use Rattle.garside_form.proofs.FactorLemmas.{KeepsFactors-refl, KeepsFactors-trans, KeepsFactors-pair, KeepsFactors-behind, AreGreedy-append}
 use Rattle.garside_form.proofs.FlipLemmas.{EachOrder-flip, AreGreedy-flip, BeginsShort-flip, KeepsFactors-half_turn}
+use Rattle.wb_base.proofs.PartLemmas.{nil_cons, first_is}
 
 -- ---- Fronts ----
 
 -- the orders of a front and of its last
-pub orders_append : (n : ℕ) (front ps : List (List ℕ)) → EachOrder n front → EachOrder n ps → EachOrder n (front ++ ps)
+pub orders_append
+    : (n : ℕ) (front ps : List (List ℕ))
+    → EachOrder n front
+    → EachOrder n ps
+    → EachOrder n (front ++ ps)
 orders_append n [] ps first second = second
 orders_append n (p ∷ front) ps first second = (first.0, orders_append n front ps first.1 second)
 
@@ -50,7 +55,9 @@ begins_front n [] ps begins = tt
 begins_front n (p ∷ front) ps begins = begins
 
 -- and the whole if a front does that has one at least
-begins_whole : (n : ℕ) (front : List (List ℕ)) (o : List ℕ) (ps : List (List ℕ)) → BeginsShort n (front ++ o ∷ [])
+begins_whole
+    : (n : ℕ) (front : List (List ℕ)) (o : List ℕ) (ps : List (List ℕ))
+    → BeginsShort n (front ++ o ∷ [])
     → BeginsShort n (front ++ o ∷ ps)
 begins_whole n [] o ps begins = begins
 begins_whole n (p ∷ front) o ps begins = begins
@@ -105,19 +112,6 @@ pub record IsPass (n : ℕ) (start front : List (List ℕ)) (carry : List ℕ) (
   pub rest_begins : BeginsShort n rest
   pub came : Came n front carry rest
 
--- nothing is next in an empty rest
-nothing_next : (s : List ℕ) (ss : List (List ℕ)) → [] ≡ s ∷ ss → ⊥
-nothing_next s ss is = let long : 0 ≡ length (s ∷ ss) = ap length is in absurd (omega arith)
-
--- the first of a list, and d where there is none
-abbrev head_or : List ℕ → List (List ℕ) → List ℕ
-head_or d [] = d
-head_or d (x ∷ xs) = x
-
--- equal lists have equal firsts
-head_same : {a b : List ℕ} {l m : List (List ℕ)} → a ∷ l ≡ b ∷ m → a ≡ b
-head_same {a} {b} is = ap (head_or a) is
-
 -- it begins behind a greedy list
 pub IsPass-begin
     : (n : ℕ) (front : List (List ℕ)) (carry : List ℕ)
@@ -135,7 +129,7 @@ IsPass-begin n front carry orders order greedy begins = record {
   front_begins = begins;
   rest_greedy = tt;
   rest_begins = tt;
-  came = λ f ss o s is_front is_rest. absurd (nothing_next s ss is_rest);
+  came = λ f ss o s is_front is_rest. absurd (nil_cons is_rest);
 }
 
 -- what the pass leaves behind it stays greedy
@@ -197,7 +191,7 @@ IsPass-step n start f o carry t u rest pass short moves greedy = record {
       in_q = pass.in_carry;
       greedy = greedy_last n g p o [] (subst (λ l. AreGreedy n l)
           (ap (λ l. l ++ o ∷ []) is_front ∙ behind_one g p (o ∷ [])) pass.front_greedy);
-      moves = subst (λ r. Moves n o carry t r) (head_same is_rest) moves;
+      moves = subst (λ r. Moves n o carry t r) (first_is is_rest) moves;
     }
 
 -- ---- Its end ----
@@ -225,11 +219,13 @@ turned_greedy
     → AreGreedy n (front ++ map flip rest)
 turned_greedy n start front carry [] pass is = rw (append-nil front) pass.front_greedy
 turned_greedy n start front carry (s ∷ ss) pass is =
-    greedy_join n front (map flip (s ∷ ss)) pass.front_greedy (AreGreedy-flip n (s ∷ ss) pass.in_rest pass.rest_greedy.1)
+    greedy_join n front (map flip (s ∷ ss)) pass.front_greedy
+    (AreGreedy-flip n (s ∷ ss) pass.in_rest pass.rest_greedy.1)
     (λ f ts o t is_front is_rest.
     let from = pass.came f ss o s is_front refl in
-    let moves : Moves n from.p from.q (half_turn n) s = subst (λ c. Moves n from.p from.q c s) is from.moves in
-    subst (λ x. IsGreedy n o x) (head_same is_rest)
+    let moves : Moves n from.p from.q (half_turn n) s =
+    subst (λ c. Moves n from.p from.q c s) is from.moves in
+    subst (λ x. IsGreedy n o x) (first_is is_rest)
     (IsGreedy-half_turn o from.in_p from.in_q from.greedy moves))
 
 -- they begin with no half turn

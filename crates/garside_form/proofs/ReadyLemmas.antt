@@ -5,7 +5,7 @@ use Rattle.perm_braid.specs.Arrangements.{identity}
 use Rattle.perm_braid.specs.GreedyPairs.{IsGreedy}
 use Rattle.garside_form.specs.NormalForms.{IsNormal}
 use Rattle.garside_form.specs.FactorLists.{EachOrder, AreGreedy, KeepsFactors, EndsCrossed, IsReady}
-use Rattle.garside_form.proofs.UniqueLemmas.{IsOn-product}
+use Rattle.garside_form.proofs.NaturalLevelLemmas.{IsOn-product}
 use Rattle.garside_form.proofs.FactorLemmas.{product_identity, greedy_half_turn, greedy_identity}
 
 -- ---- Identities at the end ----
@@ -15,7 +15,10 @@ pub KeepsFactors-identity : (n : ℕ) (ps : List (List ℕ)) → KeepsFactors n 
 KeepsFactors-identity n ps u v one two = rw (product_identity n ps one two) (stay (IsOn-product two))
 
 -- a list ends crossed if its last does
-pub EndsCrossed-last : (n : ℕ) (front : List (List ℕ)) (p : List ℕ) → (p ≡ identity n → ⊥) → EndsCrossed n (front ++ p ∷ [])
+pub EndsCrossed-last
+    : (n : ℕ) (front : List (List ℕ)) (p : List ℕ)
+    → (p ≡ identity n → ⊥)
+    → EndsCrossed n (front ++ p ∷ [])
 EndsCrossed-last n [] p last = last
 EndsCrossed-last n (q ∷ []) p last = last
 EndsCrossed-last n (q ∷ r ∷ front) p last = EndsCrossed-last n (r ∷ front) p last
@@ -30,7 +33,8 @@ first_crossed
     → ⊥
 first_crossed n p [] orders greedy ends is = ends is
 first_crossed n p (q ∷ ps) orders greedy ends is =
-    first_crossed n q ps orders.1 greedy.1 ends (greedy_identity orders.1.0 (subst (λ r. IsGreedy n r q) is greedy.0))
+    first_crossed n q ps orders.1 greedy.1 ends
+    (greedy_identity orders.1.0 (subst (λ r. IsGreedy n r q) is greedy.0))
 
 -- ---- Normal lists ----
 
@@ -51,7 +55,8 @@ IsNormal-ready n (p ∷ q ∷ ps) ready = (
   IsNormal-ready n (q ∷ ps) (record {
     orders = ready.orders.1;
     greedy = ready.greedy.1;
-    begins = λ is. ready.begins (greedy_half_turn ready.orders.0 (subst (λ r. IsGreedy n p r) is ready.greedy.0));
+    begins = λ is. ready.begins (greedy_half_turn ready.orders.0
+        (subst (λ r. IsGreedy n p r) is ready.greedy.0));
     ends = ready.ends;
   }),
 )

@@ -181,7 +181,9 @@ chain_from R [] all = tt
 chain_from R (x ∷ []) all = tt
 chain_from R (x ∷ y ∷ a) all = (all 1 (omega arith) (omega arith), chain_from R (y ∷ a) (rest all))
   where
-    rest : ((i : ℕ) → 1 ≤ i → i < length (x ∷ y ∷ a) → R (entry (x ∷ y ∷ a) i) (entry (x ∷ y ∷ a) (i + 1)) ≡ false)
+    rest
+        : ((i : ℕ) → 1 ≤ i → i < length (x ∷ y ∷ a)
+        → R (entry (x ∷ y ∷ a) i) (entry (x ∷ y ∷ a) (i + 1)) ≡ false)
         → (i : ℕ) → 1 ≤ i → i < length (y ∷ a) → R (entry (y ∷ a) i) (entry (y ∷ a) (i + 1)) ≡ false
     rest all zero low high = absurd (omega arith)
     rest all (suc i) low high =

@@ -12,7 +12,8 @@ use Rattle.braid_word.proofs.EquivalenceLemmas.{on_last, EquivalentOn-sym, Equiv
 use Rattle.perm_braid.specs.SimpleWords.{delta_word}
 use Rattle.garside_form.specs.NormalForms.{times, delta_power, IsProduct}
 use Rattle.garside_form.specs.FactorLists.{EachOrder, half_turns, is_odd, turned_index, turned_factors}
-use Rattle.garside_form.proofs.UniqueLemmas.{times-add, times_inverse, IsOn-times, IsOn-delta, IsOn-product, product_unique}
+use Rattle.garside_form.proofs.NaturalLevelLemmas.{IsOn-times, IsOn-delta, IsOn-product}
+use Rattle.garside_form.proofs.UniqueLemmas.{times-add, times_inverse, product_unique}
 use Rattle.garside_form.proofs.DeltaLemmas.{EquivalentOn-delta_letter, EquivalentOn-inverse_delta_pass}
 use Rattle.garside_form.proofs.FlipLemmas.{product_flip}
 
@@ -101,7 +102,8 @@ pass_both
     → IsTurn n b v
     → 1 ≤ i
     → i < n
-    → EquivalentOn n ((t ++ v) ++ letter i s ∷ []) (letter (turned_index n a (turned_index n b i)) s ∷ (t ++ v))
+    → EquivalentOn n ((t ++ v) ++ letter i s ∷ [])
+    (letter (turned_index n a (turned_index n b i)) s ∷ (t ++ v))
 pass_both n i a b s t v first second low high =
     let j = turned_index n b i in
     let (low_j, high_j) = turned_within n i b low high in
@@ -111,7 +113,8 @@ pass_both n i a b s t v first second low high =
     EquivalentOn-before v second.on (first.passes j s low_j high_j) in
     EquivalentOn-trans
     (subst (λ x. EquivalentOn n x (t ++ letter j s ∷ v)) (sym (append_assoc t v (letter i s ∷ []))) one)
-    (subst (λ x. EquivalentOn n x (letter (turned_index n a j) s ∷ (t ++ v))) (append_assoc t (letter j s ∷ []) v) two)
+    (subst (λ x. EquivalentOn n x (letter (turned_index n a j) s ∷ (t ++ v)))
+    (append_assoc t (letter j s ∷ []) v) two)
 
 -- the half turn is one
 IsTurn-delta : (n : ℕ) → IsTurn n true (delta_word n)
@@ -127,7 +130,8 @@ IsTurn-inverse n = record {
   passes = λ i s low high.
       let e : n - (n - i) ≡ i = omega arith in
       EquivalentOn-sym (subst
-      (λ k. EquivalentOn n (letter (n - i) s ∷ inverse (delta_word n)) (inverse (delta_word n) ++ letter k s ∷ [])) e
+      (λ k. EquivalentOn n (letter (n - i) s ∷ inverse (delta_word n))
+      (inverse (delta_word n) ++ letter k s ∷ [])) e
       (EquivalentOn-inverse_delta_pass n (letter (n - i) s) ((omega arith, omega arith), tt)));
 }
 
@@ -138,8 +142,10 @@ IsTurn-times n (suc m) t turn =
     let rest = IsTurn-times n m t turn in
     record {
       on = on_append n t (times m t) turn.on rest.on;
-      passes = λ i s low high. subst (λ k. EquivalentOn n ((t ++ times m t) ++ letter i s ∷ []) (letter k s ∷ (t ++ times m t)))
-          (turned_again n i (is_odd m) high) (pass_both n i true (is_odd m) s t (times m t) turn rest low high);
+      passes = λ i s low high. subst (λ k. EquivalentOn n ((t ++ times m t) ++ letter i s ∷ [])
+          (letter k s ∷ (t ++ times m t)))
+          (turned_again n i (is_odd m) high)
+          (pass_both n i true (is_odd m) s t (times m t) turn rest low high);
     }
 
 -- so are inverse half turns before half turns
@@ -151,8 +157,10 @@ IsTurn-half_turns n d m =
     let two = times d (delta_word n) in
     record {
       on = on_append n one two first.on second.on;
-      passes = λ i s low high. subst (λ k. EquivalentOn n ((one ++ two) ++ letter i s ∷ []) (letter k s ∷ (one ++ two)))
-          (turned_both n d m i low high) (pass_both n i (is_odd m) (is_odd d) s one two first second low high);
+      passes = λ i s low high. subst (λ k. EquivalentOn n ((one ++ two) ++ letter i s ∷ [])
+          (letter k s ∷ (one ++ two)))
+          (turned_both n d m i low high)
+          (pass_both n i (is_odd m) (is_odd d) s one two first second low high);
     }
 
 -- ---- Words and simple braids that are passed ----
@@ -178,11 +186,13 @@ word_pass n odd t (c ∷ w) turn on =
     let here : EquivalentOn n (t ++ letter k c.negative ∷ []) (c ∷ t) =
     subst (λ i. EquivalentOn n (t ++ letter k c.negative ∷ []) (letter i c.negative ∷ t))
     (turned_twice n c.index odd high) (turn.passes k c.negative low_k high_k) in
-    let first : EquivalentOn n (c ∷ (w ++ t)) (c ∷ (t ++ later)) = EquivalentOn-after (c ∷ []) (on.0, tt) rest in
+    let first : EquivalentOn n (c ∷ (w ++ t)) (c ∷ (t ++ later)) =
+    EquivalentOn-after (c ∷ []) (on.0, tt) rest in
     let second : EquivalentOn n ((c ∷ t) ++ later) ((t ++ letter k c.negative ∷ []) ++ later) =
     EquivalentOn-before later on_later (EquivalentOn-sym here) in
     EquivalentOn-trans first
-    (subst (λ x. EquivalentOn n (c ∷ (t ++ later)) x) (append_assoc t (letter k c.negative ∷ []) later) second)
+    (subst (λ x. EquivalentOn n (c ∷ (t ++ later)) x) (append_assoc t (letter k c.negative ∷ []) later)
+    second)
 
 -- with no turn letters stay
 letters_stay : (n : ℕ) (w : List Letter) → map (turned_letter n false) w ≡ w
@@ -219,7 +229,10 @@ half_turns_more n d (suc m) =
     let second : EquivalentOn n (inverse t ++ (t ++ x)) x = EquivalentOn-drop_left n t x on_t on_x in
     let third : EquivalentOn n (inverse t ++ (t ++ x)) (inverse t ++ half_turns n (suc d) m) =
     EquivalentOn-after (inverse t) on_back (half_turns_more n d m) in
-    rw (append_assoc (inverse t) (times m (inverse t)) (times d t), append_assoc (inverse t) (times m (inverse t)) (times (suc d) t))
+    rw (
+      append_assoc (inverse t) (times m (inverse t)) (times d t),
+      append_assoc (inverse t) (times m (inverse t)) (times (suc d) t),
+    )
     (EquivalentOn-trans first (EquivalentOn-trans (EquivalentOn-sym second) third))
 
 -- inverse half turns in front are counted
@@ -238,9 +251,11 @@ fewer
     : (n m d : ℕ) (w : List Letter)
     → d ≤ m
     → IsOn n w
-    → EquivalentOn n (times m (inverse (delta_word n)) ++ (times d (delta_word n) ++ w)) (times (m - d) (inverse (delta_word n)) ++ w)
+    → EquivalentOn n (times m (inverse (delta_word n)) ++ (times d (delta_word n) ++ w))
+    (times (m - d) (inverse (delta_word n)) ++ w)
 fewer n m d w less on =
-    subst (λ x. EquivalentOn n (times m (inverse (delta_word n)) ++ (times d x ++ w)) (times (m - d) (inverse (delta_word n)) ++ w))
+    subst (λ x. EquivalentOn n (times m (inverse (delta_word n)) ++ (times d x ++ w))
+    (times (m - d) (inverse (delta_word n)) ++ w))
     (inverse-inverse (delta_word n))
     (times_inverse m d (inverse (delta_word n)) w less (on_inverse n (delta_word n) (IsOn-delta n)) on)
 
@@ -249,18 +264,22 @@ more
     : (n m d : ℕ) (w : List Letter)
     → m ≤ d
     → IsOn n w
-    → EquivalentOn n (times m (inverse (delta_word n)) ++ (times d (delta_word n) ++ w)) (times (d - m) (delta_word n) ++ w)
+    → EquivalentOn n (times m (inverse (delta_word n)) ++ (times d (delta_word n) ++ w))
+    (times (d - m) (delta_word n) ++ w)
 more n m d w less on =
     let c = times (d - m) (delta_word n) ++ w in
-    let on_c = on_append n (times (d - m) (delta_word n)) w (IsOn-times n (d - m) (delta_word n) (IsOn-delta n)) on in
+    let on_c = on_append n (times (d - m) (delta_word n)) w
+    (IsOn-times n (d - m) (delta_word n) (IsOn-delta n)) on in
     let e : m + (d - m) ≡ d = omega arith in
     let parts : times d (delta_word n) ++ w ≡ times m (delta_word n) ++ c =
     ap (λ k. times k (delta_word n) ++ w) (sym e) ∙ times-add m (d - m) (delta_word n) w in
     let f : m - m ≡ 0 = omega arith in
-    let all : EquivalentOn n (times m (inverse (delta_word n)) ++ (times m (delta_word n) ++ c)) (times (m - m) (inverse (delta_word n)) ++ c) =
+    let all : EquivalentOn n (times m (inverse (delta_word n)) ++ (times m (delta_word n) ++ c))
+    (times (m - m) (inverse (delta_word n)) ++ c) =
     fewer n m m c (omega arith) on_c in
     let none : EquivalentOn n (times m (inverse (delta_word n)) ++ (times m (delta_word n) ++ c)) c =
-    subst (λ k. EquivalentOn n (times m (inverse (delta_word n)) ++ (times m (delta_word n) ++ c)) (times k (inverse (delta_word n)) ++ c)) f all in
+    subst (λ k. EquivalentOn n (times m (inverse (delta_word n)) ++ (times m (delta_word n) ++ c))
+    (times k (inverse (delta_word n)) ++ c)) f all in
     subst (λ x. EquivalentOn n (times m (inverse (delta_word n)) ++ x) c) (sym parts) none
 
 -- both are the power of their difference
@@ -275,6 +294,8 @@ half_turns_power n d m z w on up down =
     (elim (cases_lt d m) [
       | inl less ↦
           let e : m - d ≡ suc (m - d - 1) = omega arith in
-          rw (down less) (subst (λ k. EquivalentOn n (times m (inverse (delta_word n)) ++ (times d (delta_word n) ++ w)) (times k (inverse (delta_word n)) ++ w)) e (fewer n m d w (omega arith) on))
+          rw (down less)
+          (subst (λ k. EquivalentOn n (times m (inverse (delta_word n)) ++ (times d (delta_word n) ++ w))
+          (times k (inverse (delta_word n)) ++ w)) e (fewer n m d w (omega arith) on))
       | inr other ↦ rw (up (omega arith)) (more n m d w (omega arith) on)
     ])

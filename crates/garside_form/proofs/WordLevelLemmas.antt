@@ -2,14 +2,16 @@
 --
 -- A word is read from its last letter to its first, with d half turns put in front of it, so many that
 -- each negative letter has one: with one of them a negative letter is a simple braid. The orders are those
--- of the strands, which a word changes as it goes; half turns in front reverse them. One half turn more stands
--- in front (`levels-more`), and a way between two orders is taken in as one simple braid (`levels-way`).
+-- of the strands, which a word changes as it goes; half turns in front reverse them. One half turn more
+-- stands in front (`levels-more`), and a way between two orders is taken in as one simple braid
+-- (`levels-way`).
 use Rattle.std.proofs.Common.{ℕ, zero, suc, ◌≡◌, inl, inr, ◌+◌, ◌<◌, ◌≤◌, Bool, true, false, List, [], ◌∷◌, ◌++◌, reverse, subst, arith}
 use Rattle.braid_word.specs.Words.{Letter, IsOn}
 use Rattle.perm_braid.specs.Arrangements.{entry, swapped, IsOrder}
 use Rattle.perm_braid.specs.SimpleWords.{generator}
 use Rattle.perm_braid.proofs.SwapLemmas.{IsOrder-swapped}
-use Rattle.garside_form.proofs.SettleLemmas.{IsBefore, before_or, before_differ, before-swapped, IsSettled-from, IsBetween}
+use Rattle.garside_form.proofs.LeadingLemmas.{IsBefore, before_or, before-swapped}
+use Rattle.garside_form.proofs.SettleLemmas.{before_differ, IsSettled-from, IsBetween}
 use Rattle.garside_form.proofs.LevelLemmas.{IsOrder-reverse, before-reverse, before-reversed, Levels, IsSame, in_front, push, AreOrders, IsSettledFrom, IsSame-push, IsSame-in_front, IsSame-trans, IsSame-sym, AreOrders-push, AreOrders-in_front, push-merge, IsSettledFrom-push, push-same, push-half_turn, push-turn}
 
 -- ---- Half turns ----
@@ -63,7 +65,8 @@ levels [] zero x = λ k. x
 levels [] (suc d) x = push (turned_by (suc d) x) (in_front (turned_by d x) (levels [] d x))
 levels (c ∷ w) d x =
     push (turned_by d x)
-    (in_front (turned_by (lower c.negative d) (swapped c.index x)) (levels w (lower c.negative d) (swapped c.index x)))
+    (in_front (turned_by (lower c.negative d) (swapped c.index x))
+    (levels w (lower c.negative d) (swapped c.index x)))
 
 -- what a letter leaves is enough for the rest
 pub lower_fits : (b : Bool) (d k : ℕ) → taken b + k ≤ d → k ≤ lower b d
@@ -81,11 +84,13 @@ pub AreOrders-levels : {n : ℕ} {x : List ℕ} (w : List Letter) (d : ℕ) → 
     → AreOrders n (levels w d x)
 AreOrders-levels [] zero order on = λ k. order
 AreOrders-levels {n} {x} [] (suc d) order on =
-    AreOrders-push (turned_by (suc d) x) (AreOrders-in_front (IsOrder-turned d order) (AreOrders-levels [] d order on))
+    AreOrders-push (turned_by (suc d) x)
+    (AreOrders-in_front (IsOrder-turned d order) (AreOrders-levels [] d order on))
 AreOrders-levels {n} {x} (c ∷ w) d order on =
     let next = IsOrder-swapped order c.index on.0.0 on.0.1 in
     AreOrders-push (turned_by d x)
-    (AreOrders-in_front (IsOrder-turned (lower c.negative d) next) (AreOrders-levels w (lower c.negative d) next on.1))
+    (AreOrders-in_front (IsOrder-turned (lower c.negative d) next)
+    (AreOrders-levels w (lower c.negative d) next on.1))
 
 -- and the sequence is settled
 pub IsSettledFrom-levels
@@ -97,14 +102,17 @@ IsSettledFrom-levels {n} {x} [] zero order on = still
   where
     still : IsSettledFrom x (λ k. x)
     still zero = IsSettled-from x x order (λ i low high before after. absurd (omega (arith, before, after)))
-    still (suc k) = IsSettled-from x x order (λ i low high before after. absurd (omega (arith, before, after)))
+    still (suc k) =
+        IsSettled-from x x order (λ i low high before after. absurd (omega (arith, before, after)))
 IsSettledFrom-levels {n} {x} [] (suc d) order on =
-    IsSettledFrom-push (IsOrder-turned (suc d) order) (IsOrder-turned d order) (AreOrders-levels [] d order on)
+    IsSettledFrom-push (IsOrder-turned (suc d) order) (IsOrder-turned d order)
+    (AreOrders-levels [] d order on)
     (IsSettledFrom-levels [] d order on)
 IsSettledFrom-levels {n} {x} (c ∷ w) d order on =
     let next = IsOrder-swapped order c.index on.0.0 on.0.1 in
     IsSettledFrom-push (IsOrder-turned d order) (IsOrder-turned (lower c.negative d) next)
-    (AreOrders-levels w (lower c.negative d) next on.1) (IsSettledFrom-levels w (lower c.negative d) next on.1)
+    (AreOrders-levels w (lower c.negative d) next on.1)
+    (IsSettledFrom-levels w (lower c.negative d) next on.1)
 
 -- ---- One half turn more ----
 
@@ -121,8 +129,10 @@ more_letter
     → taken b + negatives w ≤ d
     → IsOrder n x
     → IsOrder n z
-    → IsSame (push (turned_by (suc d) x) (in_front (turned_by (lower b (suc d)) z) (levels w (lower b (suc d)) z)))
-    (in_front (turned_by d x) (push (turned_by d x) (in_front (turned_by (lower b d) z) (levels w (lower b d) z))))
+    → IsSame (push (turned_by (suc d) x)
+    (in_front (turned_by (lower b (suc d)) z) (levels w (lower b (suc d)) z)))
+    (in_front (turned_by d x)
+    (push (turned_by d x) (in_front (turned_by (lower b d) z) (levels w (lower b d) z))))
 more_letter w more false d x z fits first second =
     IsSame-trans (IsSame-push (turned_by (suc d) x)
     (IsSame-in_front (turned_by (suc d) z) (more d z (omega arith) second)))
@@ -143,7 +153,8 @@ levels-more {n} (c ∷ w) on d x fits order =
 
 -- ---- Ways ----
 
--- The word leads from the order x to the order z, and each letter exchanges a pair that stands otherwise in z.
+-- The word leads from the order x to the order z, and each letter exchanges a pair that stands otherwise in
+-- z.
 pub data IsWay (n : ℕ) (z : List ℕ) : List ℕ → List Letter → Type 0 where
   arrive : {x : List ℕ} → x ≡ z → IsWay n z x []
   cross : {x : List ℕ} {u : List Letter} (i : ℕ) → 1 ≤ i → i < n → IsBefore z (entry x (i + 1)) (entry x i)

@@ -9,13 +9,15 @@
 --   BeginsShort n ps        the first arrangement isn't the half turn
 --   IsReady n ps            the list is greedy, begins with no half turn and ends with no identity
 --   half_turns n d m        the word of m inverse half turns, and then d half turns
---   IsSpelledBy n w ps d m  w is equivalent to what the list spells, before m inverse half turns and d half turns
+-- IsSpelledBy n w ps d m  w is equivalent to what the list spells, before m inverse half turns and d half
+-- turns
 --   is_odd m                whether m is odd
 --   turned_index n odd i    the index i, turned where the number of half turns is odd
 --   turned_factors odd ps   the arrangements, each flipped where that number is odd
 --   letter_factor n i b     the simple braid of a letter
 --   half_turn_if n turned   a half turn where one came out, and else nothing
---   IsTakenIn n s ps turned ps is a greedy list that begins with no half turn, and has the product of the list s,
+-- IsTakenIn n s ps turned ps is a greedy list that begins with no half turn, and has the product of the list
+-- s,
 --                           but for the half turn that came out
 use Rattle.std.specs.Prelude.{◌≡◌, ℕ, zero, suc, ◌-◌, Bool, false, not, if◌then◌else◌, List, [], ◌∷◌, ◌++◌, map}
 use Rattle.braid_word.specs.Words.{Letter, inverse}
@@ -77,12 +79,13 @@ is_odd (suc m) = not (is_odd m)
 abbrev pub turned_index : ℕ → Bool → ℕ → ℕ
 turned_index n odd i = if odd then n - i else i
 
--- The arrangements of a list behind half turns that stood before them: each is flipped where their number is odd.
+-- The arrangements of a list behind half turns that stood before them: each is flipped where their number is
+-- odd.
 abbrev pub turned_factors : Bool → List (List ℕ) → List (List ℕ)
 turned_factors odd ps = if odd then map flip ps else ps
 
--- The simple braid of a letter: that of the generator, or for an inverse the half turn without the generator in
--- front.
+-- The simple braid of a letter: that of the generator, or for an inverse the half turn without the generator
+-- in front.
 abbrev pub letter_factor : ℕ → ℕ → Bool → List ℕ
 letter_factor n i negative = if negative then values_swapped i (half_turn n) else swapped i (identity n)
 
@@ -90,8 +93,8 @@ letter_factor n i negative = if negative then values_swapped i (half_turn n) els
 abbrev pub half_turn_if : ℕ → Bool → List (List ℕ)
 half_turn_if n turned = if turned then half_turn n ∷ [] else []
 
--- What is owed for a list that ends with a simple braid to be taken in: a greedy list that begins with no half
--- turn, and behind it a half turn where one came out.
+-- What is owed for a list that ends with a simple braid to be taken in: a greedy list that begins with no
+-- half turn, and behind it a half turn where one came out.
 pub record IsTakenIn (n : ℕ) (start ps : List (List ℕ)) (turned : Bool) : Type 0 where
   pub orders : EachOrder n ps
   pub greedy : AreGreedy n ps

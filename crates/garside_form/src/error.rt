@@ -9,7 +9,7 @@ use thiserror::Error;
 pub enum NormalErr {
     /// The letter at this place, counted from 1, is the first whose index is the number of strands or more.
     #[error("a letter of more strands at place {place}")]
-    Strands { place: u32 },
+    Strands { place: u64 },
     /// Memory ran out.
     #[error("out of memory")]
     Memory,

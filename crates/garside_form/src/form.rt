@@ -122,7 +122,8 @@ fn same_parts(a: &NormalForm, b: &NormalForm) -> bool
 pub fn same(a: &NormalForm, b: &NormalForm) -> bool
     requires strands { a.now.strands ≡ b.now.strands }
     ensures exact { IsTrue result ↔ ((a.now.delta ≡ b.now.delta) × (a.now.factors ≡ b.now.factors)) }
-    ensures equivalent { (u v : List Letter) → IsFormOf a.now u → IsFormOf b.now v → (IsTrue result ↔ EquivalentOn a.now.strands u v) }
+    ensures equivalent { (u v : List Letter) → IsFormOf a.now u → IsFormOf b.now v
+        → (IsTrue result ↔ EquivalentOn a.now.strands u v) }
 {
     same_parts(a, b)
 }

@@ -3,6 +3,7 @@
 
 mod error;
 mod form;
+mod law;
 mod letters;
 mod lists;
 mod make;
@@ -12,5 +13,6 @@ mod writer;
 
 pub use error::NormalErr;
 pub use form::{NormalForm, same};
-pub use make::normal;
+pub use law::law_one_form;
+pub use make::{normal, normal_on};
 pub use writer::put_normal;

@@ -42,7 +42,8 @@ pub(crate) fn take_in(
     requires empty { stack.old.items ≡ [] }
     requires ready { IsReady (length carry) list.old.items }
     requires order { IsOrder (length carry) carry }
-    ensures taken { IfOk result (λ turned. IsTakenIn (length carry) (list.old.items ++ carry ∷ []) list.new.items turned) }
+    ensures taken { IfOk result
+        (λ turned. IsTakenIn (length carry) (list.old.items ++ carry ∷ []) list.new.items turned) }
     ensures empty { OnOk result (stack.new.items ≡ []) }
 {
     let mut carry = carry;
@@ -69,8 +70,10 @@ pub(crate) fn take_in(
 
 /// Takes identities off the end of a greedy list.
 pub(crate) fn drop_identities(list: &mut Vec<Perm>) -> Result<(), AllocError>
-    ensures ready { (n : ℕ) → EachOrder n list.old.items → AreGreedy n list.old.items → BeginsShort n list.old.items → OnOk result (IsReady n list.new.items) }
-    ensures keeps { (n : ℕ) → EachOrder n list.old.items → OnOk result (KeepsFactors n list.old.items list.new.items) }
+    ensures ready { (n : ℕ) → EachOrder n list.old.items → AreGreedy n list.old.items
+        → BeginsShort n list.old.items → OnOk result (IsReady n list.new.items) }
+    ensures keeps { (n : ℕ) → EachOrder n list.old.items
+        → OnOk result (KeepsFactors n list.old.items list.new.items) }
 {
     while let Some(last) = list.pop() {
         if !last.is_identity() {

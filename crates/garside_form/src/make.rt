@@ -25,8 +25,8 @@ fn difference(a: u32, b: u32) -> i32
     }
 }
 
-// The normal form of a word on n strands.
-fn normal_on(alloc: Global, word: &[Letter], n: u32) -> Result<NormalForm, AllocError>
+/// The normal form of a word that is on n strands.
+pub fn normal_on(alloc: Global, word: &[Letter], n: u32) -> Result<NormalForm, AllocError>
     requires low { 2 ≤ n }
     requires high { n ≤ 64 }
     requires most { length word.now ≤ 100000 }
@@ -53,11 +53,12 @@ pub fn normal(alloc: Global, word: &[Letter], n: u32) -> Result<NormalForm, Norm
     ensures form { IfOk result (λ f. IsFormOf f word.now) }
     ensures only { IfOk result (λ f. (g : Form) → g.strands ≡ n → IsFormOf g word.now → g ≡ f) }
     ensures on { OnOk result (IsOn n word.now) }
-    ensures refused { (place : ℕ) → (result ≡ Err (Strands place)) ↔ (option_map (λ k. k + 1) (first_outside n word.now) ≡ Some place) }
+    ensures refused { (place : ℕ) → (result ≡ Err (Strands place))
+        ↔ (option_map (λ k. k + 1) (first_outside n word.now) ≡ Some place) }
 {
     if let Some(k) = first_outside(word, n) {
         return Err(NormalErr::Strands {
-            place: k as u32 + 1,
+            place: k as u64 + 1,
         });
     }
     Ok(normal_on(alloc, word, n)?)

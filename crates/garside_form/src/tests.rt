@@ -1,5 +1,5 @@
 // Worked normal forms, pairs of equivalent words, and the refusal of a letter of more strands.
-use crate::{NormalErr, NormalForm, normal, put_normal, same};
+use crate::{NormalErr, NormalForm, law_one_form, normal, put_normal, same};
 use braid_word::{Letter, Word, inverse, read_word};
 use std::alloc::{AllocError, Global};
 use std::test::Fail;
@@ -51,7 +51,7 @@ fn half_turn(alloc: Global, n: u16) -> Result<Word, AllocError> {
 }
 
 // The place that the first letter of more strands is refused at, and 0 where the word isn't refused for one.
-fn refused_at(alloc: Global, n: u32, line: &[u8]) -> Result<u32, Fail> {
+fn refused_at(alloc: Global, n: u32, line: &[u8]) -> Result<u64, Fail> {
     let word = read_word(alloc, line)?;
     match form(alloc, n, word.letters()) {
         Err(NormalErr::Strands { place }) => Ok(place),
@@ -91,6 +91,7 @@ fn words_have_their_forms(rt: HostRuntime) -> Result<(), Fail> {
 
 #[test]
 fn equivalent_words_have_one_form_and_others_have_two(rt: HostRuntime) -> Result<(), Fail> {
+    law_one_form();
     let alloc = rt.alloc();
     let rows = [
         (
@@ -129,7 +130,8 @@ fn the_half_turn_and_its_inverse_are_powers_alone(rt: HostRuntime) -> Result<(),
 #[test]
 fn a_letter_of_64_strands_crosses_its_two(rt: HostRuntime) -> Result<(), Fail> {
     let alloc = rt.alloc();
-    // At the places 63 and 64 the arrangement of `63` has 64 and 63, and that of `-63` the half turn's exchanged.
+    // At the places 63 and 64 the arrangement of `63` has 64 and 63, and that of `-63` the half turn's
+    // exchanged.
     for (word, power, at_63, at_64) in [(b"63".as_slice(), 0, 64, 63), (b"-63", -1, 1, 2)] {
         let found = form_of(alloc, 64, word)?;
         assert_eq!(rt; (found.delta(), found.factor_count()), (power, 1));

@@ -48,9 +48,11 @@ fn put_factors<K: Sink>(sink: &mut K, factors: &[Perm]) -> Result<(), Failed>
 
 // Gives the power of the half turn as a line.
 fn put_delta<K: Sink>(sink: &mut K, negative: bool, size: u32) -> Result<(), Failed>
-    ensures took { Puts (K.taken sink.old) (K.taken sink.new) result (line (codes "delta " ++ signed_text negative size)) }
+    ensures took { Puts (K.taken sink.old) (K.taken sink.new) result
+        (line (codes "delta " ++ signed_text negative size)) }
     ensures cause { HasCause (K.faults sink.old) (K.faults sink.new) result }
-    ensures waits { K.waiting sink.new ≤ K.waiting sink.old + length (line (codes "delta " ++ signed_text negative size)) }
+    ensures waits { K.waiting sink.new ≤ K.waiting sink.old
+        + length (line (codes "delta " ++ signed_text negative size)) }
 {
     give_all(sink, b"delta ")?;
     put_signed(sink, negative, u64::from(size))?;

@@ -9,7 +9,7 @@ use Rattle.ld_term.specs.declared.term_err.TermErr.{TermErr}
 use Rattle.ld_term.specs.declared.term_err.TermErr.TheVariants.{Form, TooDeep, TooMany, Memory}
 use Rattle.ld_term.specs.declared.token.Kind.{Kind}
 use Rattle.ld_term.specs.declared.token.Kind.TheVariants as kinds
-use Rattle.ld_term.proofs.EqualLemmas.{head_is, tail_is, nil_cons}
+use Rattle.wb_base.proofs.PartLemmas.{first_is, rest_is, nil_cons}
 
 -- Some term is defined.
 abbrev pub Defines : List Token → Type 0
@@ -38,7 +38,7 @@ pub fault-first
     → IsFault Defines placed end p.place
 fault-first placed after p end is other =
     at_token [] after p is (name [] 0 ∷ (equals ∷ (variable ∷ [])), simplest [] 0)
-    (λ d. other d.1.1.0 d.1.1.1 (head_is d.1.1.2.whole)) refl
+    (λ d. other d.1.1.0 d.1.1.1 (first_is d.1.1.2.whole)) refl
 
 -- a definition goes on behind its name
 pub fault-name
@@ -47,7 +47,8 @@ pub fault-name
     → p.token ≡ name bytes place
     → IsFault Defines placed end (end + 1)
 fault-name placed p bytes place end is called =
-    rw is (at_end (equals ∷ (variable ∷ []), rw called (simplest bytes place)) (λ d. nil_cons (tail_is d.1.2.whole)) refl)
+    rw is (at_end (equals ∷ (variable ∷ []), rw called (simplest bytes place))
+    (λ d. nil_cons (rest_is d.1.2.whole)) refl)
 
 -- behind a definition's name there is an equals sign
 pub fault-second
@@ -58,12 +59,15 @@ pub fault-second
     → IsFault Defines placed end q.place
 fault-second placed after p q bytes place end is called other =
     at_token (p ∷ []) after q is (equals ∷ (variable ∷ []), rw called (simplest bytes place))
-    (λ d. other (head_is (tail_is d.1.1.2.whole))) refl
+    (λ d. other (first_is (rest_is d.1.1.2.whole))) refl
 
 -- ---- The term ----
 
 -- a definition of some term
-defined : (bytes : List ℕ) (place : ℕ) (term : List Token) (t : Written) → IsTermText false term t → IsDefinitionOf (name bytes place ∷ (equals ∷ term)) t
+defined
+    : (bytes : List ℕ) (place : ℕ) (term : List Token) (t : Written)
+    → IsTermText false term t
+    → IsDefinitionOf (name bytes place ∷ (equals ∷ term)) t
 defined bytes place term t text = (bytes, place, record { term = term; whole = refl; text = text })
 
 -- what begins a term begins a definition behind a name and an equals sign
@@ -79,7 +83,7 @@ term-of
     → Defines (name bytes place ∷ (equals ∷ term))
     → IsTerm false term
 term-of bytes place term (t, (other, at, d)) =
-    (t, subst (λ w. IsTermText false w t) (sym (tail_is (tail_is d.whole))) d.text)
+    (t, subst (λ w. IsTermText false w t) (sym (rest_is (rest_is d.whole))) d.text)
 
 -- what begins a definition behind a name and an equals sign begins a term
 begins-term
@@ -112,7 +116,8 @@ refused-term
     → q.token ≡ equals
     → IsRefused (IsTermText false) placed end e
     → IsRefused IsDefinitionOf (p ∷ (q ∷ placed)) end e
-refused-term placed p q bytes place end (Form at) called sign fault = fault-term placed p q bytes place end at called sign fault
+refused-term placed p q bytes place end (Form at) called sign fault =
+    fault-term placed p q bytes place end at called sign fault
 refused-term placed p q bytes place end (TooDeep height) called sign (t, text, deep) =
     (t, rw (called, sign) (defined bytes place (tokens_of placed) t text), deep)
 refused-term placed p q bytes place end (TooMany products) called sign (t, text, large) =
@@ -123,10 +128,16 @@ refused-term placed p q bytes place end Memory called sign free = tt
 
 -- the token of a piece
 abbrev pub piece_token : List ℕ → Kind → ℕ → ℕ → Placed
-piece_token line kind first end = record { token = token_from kind (take (end - first) (drop first line)) (first + 1); place = first + 1 }
+piece_token line kind first end =
+    record { token = token_from kind (take (end - first) (drop first line)) (first + 1); place = first + 1 }
 
 -- only a name is a name
-pub other_name : (kind : Kind) (bytes : List ℕ) (place : ℕ) → (kind ≡ kinds.Name → ⊥) → (other : List ℕ) (at : ℕ) → token_from kind bytes place ≡ name other at → ⊥
+pub other_name
+    : (kind : Kind) (bytes : List ℕ) (place : ℕ)
+    → (kind ≡ kinds.Name → ⊥)
+    → (other : List ℕ) (at : ℕ)
+    → token_from kind bytes place ≡ name other at
+    → ⊥
 other_name kinds.Open bytes place no_name other at e = cc
 other_name kinds.Close bytes place no_name other at e = cc
 other_name kinds.Star bytes place no_name other at e = cc
@@ -136,7 +147,11 @@ other_name kinds.Name bytes place no_name other at e = no_name refl
 other_name kinds.Bad bytes place no_name other at e = cc
 
 -- only an equals sign is one
-pub other_equals : (kind : Kind) (bytes : List ℕ) (place : ℕ) → (kind ≡ kinds.Equals → ⊥) → token_from kind bytes place ≡ equals → ⊥
+pub other_equals
+    : (kind : Kind) (bytes : List ℕ) (place : ℕ)
+    → (kind ≡ kinds.Equals → ⊥)
+    → token_from kind bytes place ≡ equals
+    → ⊥
 other_equals kinds.Open bytes place no_sign e = cc
 other_equals kinds.Close bytes place no_sign e = cc
 other_equals kinds.Star bytes place no_sign e = cc
@@ -176,7 +191,8 @@ pub refused-second
     → (sign ≡ kinds.Equals → ⊥)
     → IsFault Defines (tokens_from false 0 line) (length line) (second + 1)
 refused-second line kind first end sign second last piece is next no_sign =
-    fault-second _ (tokens_from false last line) (piece_token line kind first end) (piece_token line sign second last) _ _ (length line)
+    fault-second _ (tokens_from false last line) (piece_token line kind first end)
+    (piece_token line sign second last) _ _ (length line)
     (piece.tokens ∙ ap (λ rest. piece_token line kind first end ∷ rest) next.tokens)
     (ap (λ k. token_from k (take (end - first) (drop first line)) (first + 1)) is)
     (other_equals sign _ _ no_sign)
@@ -193,7 +209,8 @@ pub refused-definition
 refused-definition line kind first end sign second last e piece is next sign_is refused =
     subst (λ placed. IsRefused IsDefinitionOf placed (length line) e)
     (sym (piece.tokens ∙ ap (λ rest. piece_token line kind first end ∷ rest) next.tokens))
-    (refused-term (tokens_from false last line) (piece_token line kind first end) (piece_token line sign second last) _ _ (length line) e
+    (refused-term (tokens_from false last line) (piece_token line kind first end)
+    (piece_token line sign second last) _ _ (length line) e
     (ap (λ k. token_from k (take (end - first) (drop first line)) (first + 1)) is)
     (ap (λ k. token_from k (take (last - second) (drop second line)) (second + 1)) sign_is)
     refused)

@@ -21,7 +21,8 @@ pub fault-none
     → ⊥
 fault-none Has placed end place (at_token before after p is begins stops where_is) has =
     let whole : tokens_of placed ≡ (tokens_of before ++ (p.token ∷ [])) ++ tokens_of after =
-    ap tokens_of is ∙ map-append _ before (p ∷ after) ∙ sym (append_assoc (tokens_of before) (p.token ∷ []) (tokens_of after)) in
+    ap tokens_of is ∙ map-append _ before (p ∷ after)
+    ∙ sym (append_assoc (tokens_of before) (p.token ∷ []) (tokens_of after)) in
     stops (tokens_of after, subst Has whole has)
 fault-none Has placed end place (at_end begins none where_is) has = none has
 
@@ -56,14 +57,18 @@ nameless-atom : (t : Written) → AreNameless (atom_tokens t) → HasNoName t
 nameless-atom leaf p = tt
 nameless-atom (named bytes place) p = p.0
 nameless-atom (times a b) p =
-    let behind = nameless-right (atom_tokens a) (star ∷ (atom_tokens b ++ (close_bracket ∷ []))) p.1 in
-    (nameless-atom a (nameless-left (atom_tokens a) _ p.1), nameless-atom b (nameless-left (atom_tokens b) _ behind.1))
+    let behind = nameless-right (atom_tokens a) (star ∷ (atom_tokens b ++ (close_bracket ∷ []))) p.1 in (
+      nameless-atom a (nameless-left (atom_tokens a) _ p.1),
+      nameless-atom b (nameless-left (atom_tokens b) _ behind.1),
+    )
 
 -- a byte isn't a name
 nameless-byte : (byte : ℕ) → IsNameless (byte_token byte)
 nameless-byte byte = by_tests (byte == 40) (byte == 41) (byte == 42) (byte == 61)
   where
-    by_tests : (a b c d : Bool) → IsNameless (cond a open_bracket (cond b close_bracket (cond c star (cond d equals bad))))
+    by_tests
+        : (a b c d : Bool)
+        → IsNameless (cond a open_bracket (cond b close_bracket (cond c star (cond d equals bad))))
     by_tests true b c d = tt
     by_tests false true c d = tt
     by_tests false false true d = tt
@@ -79,18 +84,23 @@ nameless-run run place = by_test (bytes_eq run (codes "x"))
     by_test false = tt
 
 -- no token of a strict reading is a name
-nameless-lex : (in_run : Bool) (place : ℕ) (bytes : List ℕ) → AreNameless (tokens_of (lex true in_run place bytes))
+nameless-lex
+    : (in_run : Bool) (place : ℕ) (bytes : List ℕ)
+    → AreNameless (tokens_of (lex true in_run place bytes))
 unfolding lex
 nameless-lex in_run place [] = tt
 nameless-lex in_run place (byte ∷ bytes) =
-    by_tests (is_name_byte byte) in_run _ _ (nameless-run (take_while is_name_byte (byte ∷ bytes)) place) (nameless-byte byte)
+    by_tests (is_name_byte byte) in_run _ _ (nameless-run (take_while is_name_byte (byte ∷ bytes)) place)
+    (nameless-byte byte)
     (nameless-lex true (place + 1) bytes) (nameless-lex false (place + 1) bytes)
   where
     by_tests : (a b : Bool) (p q : Placed)
         → IsNameless p.token → IsNameless q.token
         → AreNameless (tokens_of (lex true true (place + 1) bytes))
         → AreNameless (tokens_of (lex true false (place + 1) bytes))
-        → AreNameless (tokens_of (cond a (cond b (lex true true (place + 1) bytes) (p ∷ lex true true (place + 1) bytes)) (q ∷ lex true false (place + 1) bytes)))
+        → AreNameless
+        (tokens_of (cond a (cond b (lex true true (place + 1) bytes)
+        (p ∷ lex true true (place + 1) bytes)) (q ∷ lex true false (place + 1) bytes)))
     by_tests true true p q one two in_run out = in_run
     by_tests true false p q one two in_run out = (one, in_run)
     by_tests false b p q one two in_run out = (two, out)

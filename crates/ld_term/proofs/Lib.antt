@@ -1,4 +1,3 @@
-pub mod EqualLemmas
 pub mod TermLemmas
 pub mod ReadingLemmas
 pub mod PieceLemmas
@@ -7,7 +6,9 @@ pub mod ShapeLemmas
 pub mod TreeLemmas
 pub mod DefinitionLemmas
 pub mod TextLemmas
+pub mod FaultLemmas
 pub mod LawLemmas
+pub mod RefusalLemmas
 pub mod StrictLemmas
 pub mod StrictReadingLemmas
 pub mod TermFacts

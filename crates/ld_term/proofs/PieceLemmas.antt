@@ -5,7 +5,7 @@ use Rattle.std.proofs.lemmas.Bool.{eqb-true}
 use Rattle.std.proofs.lemmas.List.{drop-drop, drop_more, length-drop}
 use Rattle.std.proofs.lemmas.List.Sums.{prefix_len-le-length}
 use Rattle.std.proofs.Math.Seq.{drop-length}
-use Rattle.ld_term.proofs.EqualLemmas.{nil_cons, head_is}
+use Rattle.wb_base.proofs.PartLemmas.{nil_cons, first_is}
 use Rattle.ld_term.specs.Held.{token_from, IsNamed, IsStart, IsPiece}
 use Rattle.ld_term.specs.declared.token.Kind.{Kind}
 use Rattle.wb_base.specs.Names.{is_name_byte}
@@ -14,7 +14,10 @@ use Rattle.ld_term.specs.Tokens.{byte_token, run_token, lex, tokens_from}
 -- ---- One byte ----
 
 -- a space is skipped
-lex-space : (place byte : ℕ) (bytes : List ℕ) → (byte == 32) ≡ true → lex false false place (byte ∷ bytes) ≡ lex false false (place + 1) bytes
+lex-space
+    : (place byte : ℕ) (bytes : List ℕ)
+    → (byte == 32) ≡ true
+    → lex false false place (byte ∷ bytes) ≡ lex false false (place + 1) bytes
 unfolding lex
 lex-space place byte bytes space = rw (eqb-true byte 32 space) refl
 
@@ -33,7 +36,10 @@ lex-first
     : (strict : Bool) (place byte : ℕ) (bytes : List ℕ)
     → is_name_byte byte ≡ true
     → lex strict false place (byte ∷ bytes)
-    ≡ record { token = run_token strict (take (prefix_len is_name_byte (byte ∷ bytes)) (byte ∷ bytes)) place; place = place } ∷ lex strict true (place + 1) bytes
+    ≡ record {
+      token = run_token strict (take (prefix_len is_name_byte (byte ∷ bytes)) (byte ∷ bytes)) place;
+      place = place;
+    } ∷ lex strict true (place + 1) bytes
 unfolding lex
 lex-first strict place byte bytes in_run = simp in_run
 
@@ -75,16 +81,22 @@ prefix-none p byte bytes fails = rw fails refl
 pub lex-spaces
     : (place : ℕ) (bytes : List ℕ)
     → lex false false place bytes
-    ≡ lex false false (place + prefix_len (λ byte. byte == 32) bytes) (drop (prefix_len (λ byte. byte == 32) bytes) bytes)
+    ≡ lex false false (place + prefix_len (λ byte. byte == 32) bytes)
+    (drop (prefix_len (λ byte. byte == 32) bytes) bytes)
 lex-spaces place [] = rw (lex-nil false false place, lex-nil false false (place + 0)) refl
 lex-spaces place (byte ∷ bytes) = by_byte (λ k. lex-spaces k bytes) (byte == 32) refl
   where
-    by_byte : ((k : ℕ) → lex false false k bytes ≡ lex false false (k + prefix_len (λ byte. byte == 32) bytes) (drop (prefix_len (λ byte. byte == 32) bytes) bytes))
+    by_byte
+        : ((k : ℕ) → lex false false k bytes
+        ≡ lex false false (k + prefix_len (λ byte. byte == 32) bytes)
+        (drop (prefix_len (λ byte. byte == 32) bytes) bytes))
         → (b : Bool) → (byte == 32) ≡ b
         → lex false false place (byte ∷ bytes)
-        ≡ lex false false (place + prefix_len (λ byte. byte == 32) (byte ∷ bytes)) (drop (prefix_len (λ byte. byte == 32) (byte ∷ bytes)) (byte ∷ bytes))
+        ≡ lex false false (place + prefix_len (λ byte. byte == 32) (byte ∷ bytes))
+        (drop (prefix_len (λ byte. byte == 32) (byte ∷ bytes)) (byte ∷ bytes))
     by_byte more true space =
-        let at : (place + 1) + prefix_len (λ byte. byte == 32) bytes ≡ place + suc (prefix_len (λ byte. byte == 32) bytes) = omega arith in
+        let at : (place + 1) + prefix_len (λ byte. byte == 32) bytes
+        ≡ place + suc (prefix_len (λ byte. byte == 32) bytes) = omega arith in
         rw (prefix-more (λ byte. byte == 32) byte bytes space)
         (lex-space place byte bytes space ∙ more (place + 1)
         ∙ ap (λ k. lex false false k (drop (prefix_len (λ byte. byte == 32) bytes) bytes)) at)
@@ -100,12 +112,17 @@ pub lex-run
 lex-run strict place [] = rw (lex-nil strict true place, lex-nil strict false (place + 0)) refl
 lex-run strict place (byte ∷ bytes) = by_byte (λ k. lex-run strict k bytes) (is_name_byte byte) refl
   where
-    by_byte : ((k : ℕ) → lex strict true k bytes ≡ lex strict false (k + prefix_len is_name_byte bytes) (drop (prefix_len is_name_byte bytes) bytes))
+    by_byte
+        : ((k : ℕ) → lex strict true k bytes
+        ≡ lex strict false (k + prefix_len is_name_byte bytes)
+        (drop (prefix_len is_name_byte bytes) bytes))
         → (b : Bool) → is_name_byte byte ≡ b
         → lex strict true place (byte ∷ bytes)
-        ≡ lex strict false (place + prefix_len is_name_byte (byte ∷ bytes)) (drop (prefix_len is_name_byte (byte ∷ bytes)) (byte ∷ bytes))
+        ≡ lex strict false (place + prefix_len is_name_byte (byte ∷ bytes))
+        (drop (prefix_len is_name_byte (byte ∷ bytes)) (byte ∷ bytes))
     by_byte more true in_run =
-        let at : (place + 1) + prefix_len is_name_byte bytes ≡ place + suc (prefix_len is_name_byte bytes) = omega arith in
+        let at : (place + 1) + prefix_len is_name_byte bytes ≡ place + suc (prefix_len is_name_byte bytes) =
+        omega arith in
         rw (prefix-more is_name_byte byte bytes in_run)
         (lex-next strict place byte bytes in_run ∙ more (place + 1)
         ∙ ap (λ k. lex strict false k (drop (prefix_len is_name_byte bytes) bytes)) at)
@@ -124,7 +141,11 @@ lex-whole_run
     ∷ lex strict false (place + prefix_len is_name_byte line) (drop (prefix_len is_name_byte line) line)
 lex-whole_run strict place line byte bytes is in_run =
     rw is (lex-first strict place byte bytes in_run
-    ∙ ap (λ rest. record { token = run_token strict (take (prefix_len is_name_byte (byte ∷ bytes)) (byte ∷ bytes)) place; place = place } ∷ rest)
+    ∙ ap (λ rest. record {
+      token = run_token strict
+          (take (prefix_len is_name_byte (byte ∷ bytes)) (byte ∷ bytes)) place;
+      place = place;
+    } ∷ rest)
     (sym (lex-next strict place byte bytes in_run) ∙ lex-run strict place (byte ∷ bytes)))
 
 -- ---- Pieces ----
@@ -140,7 +161,10 @@ tokens-spaces line from =
     lex-spaces (from + 1) (drop from line) ∙ rw (at, drop-drop n from line) refl
 
 -- no token is left behind the end
-pub tokens-end : (strict : Bool) (line : List ℕ) (from : ℕ) → drop from line ≡ [] → tokens_from strict from line ≡ []
+pub tokens-end
+    : (strict : Bool) (line : List ℕ) (from : ℕ)
+    → drop from line ≡ []
+    → tokens_from strict from line ≡ []
 tokens-end strict line from none = rw none (lex-nil strict false (from + 1))
 
 -- a byte that stands in no run is a token
@@ -161,21 +185,33 @@ pub tokens-run
     → drop from line ≡ byte ∷ bytes
     → is_name_byte byte ≡ true
     → tokens_from strict from line
-    ≡ record { token = run_token strict (take (prefix_len is_name_byte (drop from line)) (drop from line)) (from + 1); place = from + 1 }
+    ≡ record {
+      token = run_token strict (take (prefix_len is_name_byte (drop from line)) (drop from line))
+          (from + 1);
+      place = from + 1;
+    }
     ∷ tokens_from strict (from + prefix_len is_name_byte (drop from line)) line
 tokens-run strict line from byte bytes is in_run =
     let n = prefix_len is_name_byte (drop from line) in
     let at : from + 1 + n ≡ from + n + 1 = omega arith in
-    lex-whole_run strict (from + 1) (drop from line) byte bytes is in_run ∙ rw (at, drop-drop n from line) refl
+    lex-whole_run strict (from + 1) (drop from line) byte bytes is in_run
+    ∙ rw (at, drop-drop n from line) refl
 
 -- ---- Starts and ends ----
 
 -- a front is within the list
-pub prefix-within : (p : ℕ → Bool) (line : List ℕ) (from : ℕ) → from ≤ length line → from + prefix_len p (drop from line) ≤ length line
-prefix-within p line from within = omega (arith, prefix_len-le-length p (drop from line), length-drop from line)
+pub prefix-within
+    : (p : ℕ → Bool) (line : List ℕ) (from : ℕ)
+    → from ≤ length line
+    → from + prefix_len p (drop from line) ≤ length line
+prefix-within p line from within =
+    omega (arith, prefix_len-le-length p (drop from line), length-drop from line)
 
 -- behind the spaces in front there is no space
-no_space : (bytes : List ℕ) (byte : ℕ) (rest : List ℕ) → drop (prefix_len (λ byte. byte == 32) bytes) bytes ≡ byte ∷ rest → (byte == 32) ≡ false
+no_space
+    : (bytes : List ℕ) (byte : ℕ) (rest : List ℕ)
+    → drop (prefix_len (λ byte. byte == 32) bytes) bytes ≡ byte ∷ rest
+    → (byte == 32) ≡ false
 no_space [] byte rest is = absurd (nil_cons is)
 no_space (first ∷ bytes) byte rest is = by_byte (no_space bytes byte rest) (first == 32) refl
   where
@@ -183,7 +219,7 @@ no_space (first ∷ bytes) byte rest is = by_byte (no_space bytes byte rest) (fi
         → (b : Bool) → (first == 32) ≡ b → (byte == 32) ≡ false
     by_byte more true space = more (rw (prefix-more (λ byte. byte == 32) first bytes space) at is)
     by_byte more false other =
-        let same : first ≡ byte = head_is (rw (prefix-none (λ byte. byte == 32) first bytes other) at is) in
+        let same : first ≡ byte = first_is (rw (prefix-none (λ byte. byte == 32) first bytes other) at is) in
         subst (λ z. (z == 32) ≡ false) same other
 
 -- the next token starts where the spaces end
@@ -196,7 +232,8 @@ start-spaces line from n within is = rw is record {
   within = prefix-within (λ byte. byte == 32) line from within;
   later = omega arith;
   tokens = tokens-spaces line from;
-  ends = λ byte bytes behind. no_space (drop from line) byte bytes (drop-drop (prefix_len (λ byte. byte == 32) (drop from line)) from line ∙ behind);
+  ends = λ byte bytes behind. no_space (drop from line) byte bytes
+      (drop-drop (prefix_len (λ byte. byte == 32) (drop from line)) from line ∙ behind);
 }
 
 -- nothing is left at the end
@@ -227,7 +264,8 @@ piece-byte strict line from start byte kind starts within is other token named =
       begins = omega arith;
       named = named (take (start + 1 - start) (drop start line));
       tokens = starts.tokens ∙ rw (token (take (start + 1 - start) (drop start line)) (start + 1))
-          (tokens-byte strict line start byte (drop (start + 1) line) behind other (starts.ends byte (drop (start + 1) line) behind));
+          (tokens-byte strict line start byte (drop (start + 1) line) behind other
+          (starts.ends byte (drop (start + 1) line) behind));
     }
 
 -- a run is a piece
@@ -238,12 +276,15 @@ pub piece-run
     → byte ≡ get_or line start 0
     → is_name_byte byte ≡ true
     → end ≡ start + prefix_len is_name_byte (drop start line)
-    → ((place : ℕ) → token_from kind (take (end - start) (drop start line)) place ≡ run_token strict (take (end - start) (drop start line)) place)
+    → ((place : ℕ)
+    → token_from kind (take (end - start) (drop start line)) place
+    ≡ run_token strict (take (end - start) (drop start line)) place)
     → IsNamed kind (take (end - start) (drop start line))
     → IsPiece strict line from kind start end
 piece-run strict line from start end byte kind starts within is in_run ends token named =
     let behind : drop start line ≡ byte ∷ drop (start + 1) line = rw is (drop_more line start 0 within) in
-    let some : prefix_len is_name_byte (drop start line) ≡ suc (prefix_len is_name_byte (drop (start + 1) line)) =
+    let some : prefix_len is_name_byte (drop start line)
+    ≡ suc (prefix_len is_name_byte (drop (start + 1) line)) =
     rw behind (prefix-more is_name_byte byte (drop (start + 1) line) in_run) in
     let size : end - start ≡ prefix_len is_name_byte (drop start line) = omega arith in
     let later = starts.later in
@@ -252,5 +293,6 @@ piece-run strict line from start end byte kind starts within is in_run ends toke
       within = omega (arith, prefix-within is_name_byte line start (omega arith));
       begins = omega arith;
       named = named;
-      tokens = starts.tokens ∙ rw (token (start + 1), size, ends) (tokens-run strict line start byte (drop (start + 1) line) behind in_run);
+      tokens = starts.tokens ∙ rw (token (start + 1), size, ends)
+          (tokens-run strict line start byte (drop (start + 1) line) behind in_run);
     }

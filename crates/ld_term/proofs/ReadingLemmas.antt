@@ -5,12 +5,14 @@ use Rattle.ld_term.specs.Written.{Written, leaf, named, times}
 use Rattle.ld_term.specs.Tokens.{Token, open_bracket, close_bracket, star, equals, variable, name, bad}
 use Rattle.ld_term.specs.Grammar.{atom_tokens, IsTermText, atom, bare, IsTerm, Begins}
 use Rattle.ld_term.specs.Automaton.{State, expecting, holding, step_star, step_close, step, step_from, run, start, finish, before_tokens, front, IsLegalLevel, IsLegal}
-use Rattle.ld_term.proofs.EqualLemmas.{some_inj}
+use Rattle.wb_base.proofs.PartLemmas.{Some-injective}
 
 -- ---- Runs ----
 
 -- reading two lists one after the other
-pub run-append : (strict : Bool) (u v : List Token) (s : Option State) → run strict (u ++ v) s ≡ run strict v (run strict u s)
+pub run-append
+    : (strict : Bool) (u v : List Token) (s : Option State)
+    → run strict (u ++ v) s ≡ run strict v (run strict u s)
 run-append strict [] v s = refl
 run-append strict (token ∷ u) v s = run-append strict u v (step_from strict token s)
 
@@ -27,7 +29,8 @@ run-atom strict leaf k ks = refl
 run-atom strict (named bytes place) k ks = refl
 run-atom strict (times a b) k ks =
     rw (
-      run-append strict (atom_tokens a) (star ∷ (atom_tokens b ++ (close_bracket ∷ []))) (Some (expecting None (k ∷ ks))),
+      run-append strict (atom_tokens a) (star ∷ (atom_tokens b ++ (close_bracket ∷ [])))
+          (Some (expecting None (k ∷ ks))),
       run-atom strict a None (k ∷ ks),
       run-append strict (atom_tokens b) (close_bracket ∷ []) (Some (expecting (Some a) (k ∷ ks))),
       run-atom strict b (Some a) (k ∷ ks),
@@ -40,11 +43,18 @@ pub record Reads (strict : Bool) (tokens : List Token) (t : Written) : Type 0 wh
   pub finished : finish state ≡ Some t
 
 -- a text of a term is read, and ends in the term
-pub reads-text : (strict : Bool) (tokens : List Token) (t : Written) → IsTermText strict tokens t → Reads strict tokens t
-reads-text strict tokens t (atom is) = record { state = holding t None []; reached = rw is (run-atom strict t None []); finished = refl }
+pub reads-text
+    : (strict : Bool) (tokens : List Token) (t : Written)
+    → IsTermText strict tokens t
+    → Reads strict tokens t
+reads-text strict tokens t (atom is) =
+    record { state = holding t None []; reached = rw is (run-atom strict t None []); finished = refl }
 reads-text strict tokens (times a b) (bare loose is) = record {
   state = holding b (Some a) [];
-  reached = rw (is, loose) (rw (run-append false (atom_tokens a) (star ∷ atom_tokens b) (Some start), run-atom false a None []) (run-atom false b (Some a) []));
+  reached = rw (is, loose) (rw (
+    run-append false (atom_tokens a) (star ∷ atom_tokens b) (Some start),
+    run-atom false a None [],
+  ) (run-atom false b (Some a) []));
   finished = refl;
 }
 
@@ -56,9 +66,9 @@ front-star
     → step_star strict t ks ≡ Some s
     → front s ≡ front (holding t None ks) ++ (star ∷ [])
 front-star true t [] s is = cc
-front-star false t [] s is = rw (sym (some_inj is)) refl
-front-star true t (k ∷ ks) s is = rw (sym (some_inj is)) (simp append_assoc)
-front-star false t (k ∷ ks) s is = rw (sym (some_inj is)) (simp append_assoc)
+front-star false t [] s is = rw (sym (Some-injective is)) refl
+front-star true t (k ∷ ks) s is = rw (sym (Some-injective is)) (simp append_assoc)
+front-star false t (k ∷ ks) s is = rw (sym (Some-injective is)) (simp append_assoc)
 
 -- a closing bracket is read
 front-close
@@ -66,16 +76,16 @@ front-close
     → step_close a b ks ≡ Some s
     → front s ≡ front (holding b (Some a) ks) ++ (close_bracket ∷ [])
 front-close a b [] s is = cc
-front-close a b (k ∷ ks) s is = rw (sym (some_inj is)) (simp append_assoc)
+front-close a b (k ∷ ks) s is = rw (sym (Some-injective is)) (simp append_assoc)
 
 -- the next token is read
 pub front-step
     : (strict : Bool) (token : Token) (s r : State)
     → step strict token s ≡ Some r
     → front r ≡ front s ++ (token ∷ [])
-front-step strict open_bracket (expecting k ks) r is = rw (sym (some_inj is)) refl
-front-step strict variable (expecting k ks) r is = rw (sym (some_inj is)) refl
-front-step strict (name bytes place) (expecting k ks) r is = rw (sym (some_inj is)) refl
+front-step strict open_bracket (expecting k ks) r is = rw (sym (Some-injective is)) refl
+front-step strict variable (expecting k ks) r is = rw (sym (Some-injective is)) refl
+front-step strict (name bytes place) (expecting k ks) r is = rw (sym (Some-injective is)) refl
 front-step strict close_bracket (expecting k ks) r is = cc
 front-step strict star (expecting k ks) r is = cc
 front-step strict equals (expecting k ks) r is = cc
@@ -95,13 +105,14 @@ pub front-run
     : (strict : Bool) (tokens : List Token) (s r : State)
     → run strict tokens (Some s) ≡ Some r
     → front r ≡ front s ++ tokens
-front-run strict [] s r is = rw (some_inj is, append-nil (front r)) refl
+front-run strict [] s r is = rw (Some-injective is, append-nil (front r)) refl
 front-run strict (token ∷ tokens) s r is =
     by_step (λ q. front-run strict tokens q r) (step strict token s) refl
   where
     by_step : ((q : State) → run strict tokens (Some q) ≡ Some r → front r ≡ front q ++ tokens)
         → (o : Option State) → step strict token s ≡ o → front r ≡ front s ++ (token ∷ tokens)
-    by_step more None stops = absurd (none-some r (sym (run-none strict tokens) ∙ ap (run strict tokens) (sym stops) ∙ is))
+    by_step more None stops =
+        absurd (none-some r (sym (run-none strict tokens) ∙ ap (run strict tokens) (sym stops) ∙ is))
     by_step more (Some q) goes =
         more q (sym (ap (run strict tokens) goes) ∙ is)
         ∙ ap (λ w. w ++ tokens) (front-step strict token s q goes)
@@ -116,9 +127,9 @@ legal-star
     → step_star strict t ks ≡ Some s
     → IsLegal strict s
 legal-star true t [] s legal is = cc
-legal-star false t [] s legal is = subst (IsLegal false) (some_inj is) refl
-legal-star true t (k ∷ ks) s legal is = subst (IsLegal true) (some_inj is) legal
-legal-star false t (k ∷ ks) s legal is = subst (IsLegal false) (some_inj is) legal
+legal-star false t [] s legal is = subst (IsLegal false) (Some-injective is) refl
+legal-star true t (k ∷ ks) s legal is = subst (IsLegal true) (Some-injective is) legal
+legal-star false t (k ∷ ks) s legal is = subst (IsLegal false) (Some-injective is) legal
 
 -- and so does a closing bracket
 legal-close
@@ -127,7 +138,7 @@ legal-close
     → step_close a b ks ≡ Some s
     → IsLegal strict s
 legal-close strict a b [] s legal is = cc
-legal-close strict a b (k ∷ ks) s legal is = subst (IsLegal strict) (some_inj is) legal
+legal-close strict a b (k ∷ ks) s legal is = subst (IsLegal strict) (Some-injective is) legal
 
 -- and any token
 pub legal-step
@@ -135,9 +146,10 @@ pub legal-step
     → IsLegal strict s
     → step strict token s ≡ Some r
     → IsLegal strict r
-legal-step strict open_bracket (expecting k ks) r legal is = subst (IsLegal strict) (some_inj is) legal
-legal-step strict variable (expecting k ks) r legal is = subst (IsLegal strict) (some_inj is) legal
-legal-step strict (name bytes place) (expecting k ks) r legal is = subst (IsLegal strict) (some_inj is) legal
+legal-step strict open_bracket (expecting k ks) r legal is = subst (IsLegal strict) (Some-injective is) legal
+legal-step strict variable (expecting k ks) r legal is = subst (IsLegal strict) (Some-injective is) legal
+legal-step strict (name bytes place) (expecting k ks) r legal is =
+    subst (IsLegal strict) (Some-injective is) legal
 legal-step strict close_bracket (expecting k ks) r legal is = cc
 legal-step strict star (expecting k ks) r legal is = cc
 legal-step strict equals (expecting k ks) r legal is = cc
@@ -158,13 +170,14 @@ pub legal-run
     → IsLegal strict s
     → run strict tokens (Some s) ≡ Some r
     → IsLegal strict r
-legal-run strict [] s r legal is = subst (IsLegal strict) (some_inj is) legal
+legal-run strict [] s r legal is = subst (IsLegal strict) (Some-injective is) legal
 legal-run strict (token ∷ tokens) s r legal is =
     by_step (λ q. legal-run strict tokens q r) (step strict token s) refl
   where
     by_step : ((q : State) → IsLegal strict q → run strict tokens (Some q) ≡ Some r → IsLegal strict r)
         → (o : Option State) → step strict token s ≡ o → IsLegal strict r
-    by_step more None stops = absurd (none-some r (sym (run-none strict tokens) ∙ ap (run strict tokens) (sym stops) ∙ is))
+    by_step more None stops =
+        absurd (none-some r (sym (run-none strict tokens) ∙ ap (run strict tokens) (sym stops) ∙ is))
     by_step more (Some q) goes =
         more q (legal-step strict token s q legal goes) (sym (ap (run strict tokens) goes) ∙ is)
 
@@ -197,10 +210,12 @@ ends-holding strict [] (Some a) t legal = record {
 }
 ends-holding strict (j ∷ ks) (Some a) t legal =
     ends-more strict (front (holding t (Some a) (j ∷ ks))) (close_bracket ∷ [])
-    (subst (Ends strict) (front-close a t (j ∷ ks) (holding (times a t) j ks) refl) (ends-holding strict ks j (times a t) legal))
+    (subst (Ends strict) (front-close a t (j ∷ ks) (holding (times a t) j ks) refl)
+    (ends-holding strict ks j (times a t) legal))
 ends-holding strict (j ∷ ks) None t legal =
     let closed : Ends strict (front (holding leaf (Some t) (j ∷ ks)) ++ (close_bracket ∷ [])) =
-    subst (Ends strict) (front-close t leaf (j ∷ ks) (holding (times t leaf) j ks) refl) (ends-holding strict ks j (times t leaf) legal) in
+    subst (Ends strict) (front-close t leaf (j ∷ ks) (holding (times t leaf) j ks) refl)
+    (ends-holding strict ks j (times t leaf) legal) in
     ends-more strict (front (holding t None (j ∷ ks))) (star ∷ (variable ∷ (close_bracket ∷ [])))
     (subst (Ends strict) (simp append_assoc) closed)
 
@@ -223,8 +238,14 @@ pub begins-run
     → run strict tokens (Some start) ≡ Some s
     → Begins (IsTerm strict) tokens
 begins-run strict tokens s is =
-    let ends = ends-state strict s (legal-run strict tokens start s (legal-start strict) is) in
-    (ends.rest, (ends.term, subst (λ w. IsTermText strict (w ++ ends.rest) ends.term) (front-run strict tokens start s is) ends.text))
+    let ends = ends-state strict s (legal-run strict tokens start s (legal-start strict) is) in (
+      ends.rest,
+      (
+        ends.term,
+        subst (λ w. IsTermText strict (w ++ ends.rest) ends.term)
+            (front-run strict tokens start s is) ends.text,
+      ),
+    )
 
 -- the beginning of a text is read
 pub run-begins
@@ -234,7 +255,9 @@ pub run-begins
     → ⊥
 run-begins strict tokens (rest, (t, text)) stops =
     let reads = reads-text strict (tokens ++ rest) t text in
-    none-some reads.state (sym (run-none strict rest) ∙ ap (run strict rest) (sym stops) ∙ sym (run-append strict tokens rest (Some start)) ∙ reads.reached)
+    none-some reads.state
+    (sym (run-none strict rest) ∙ ap (run strict rest) (sym stops)
+    ∙ sym (run-append strict tokens rest (Some start)) ∙ reads.reached)
 
 -- a token that may not stand behind others isn't there in a text
 pub begins-not
@@ -254,9 +277,10 @@ pub finish-text
     → finish s ≡ Some t
     → IsTermText strict (front s) t
 finish-text strict (expecting k ks) t legal is = cc
-finish-text strict (holding u None []) t legal is = atom (ap atom_tokens (some_inj is))
+finish-text strict (holding u None []) t legal is = atom (ap atom_tokens (Some-injective is))
 finish-text strict (holding u (Some a) []) t legal is =
-    subst (IsTermText strict (front (holding u (Some a) []))) (some_inj is) (bare legal (append_assoc (atom_tokens a) (star ∷ []) (atom_tokens u)))
+    subst (IsTermText strict (front (holding u (Some a) []))) (Some-injective is)
+    (bare legal (append_assoc (atom_tokens a) (star ∷ []) (atom_tokens u)))
 finish-text strict (holding u None (j ∷ ks)) t legal is = cc
 finish-text strict (holding u (Some a) (j ∷ ks)) t legal is = cc
 
@@ -279,7 +303,7 @@ pub no_text-run
     → ⊥
 no_text-run strict tokens s is none (t, text) =
     let reads = reads-text strict tokens t text in
-    none-some t (sym none ∙ ap finish (some_inj (sym is ∙ reads.reached)) ∙ reads.finished)
+    none-some t (sym none ∙ ap finish (Some-injective (sym is ∙ reads.reached)) ∙ reads.finished)
 
 -- a text is a text of one term
 pub text-unique
@@ -290,4 +314,6 @@ pub text-unique
 text-unique strict tokens t u one two =
     let first = reads-text strict tokens t one in
     let second = reads-text strict tokens u two in
-    some_inj (sym first.finished ∙ ap finish (some_inj (sym first.reached ∙ second.reached)) ∙ second.finished)
+    Some-injective
+    (sym first.finished ∙ ap finish (Some-injective (sym first.reached ∙ second.reached))
+    ∙ second.finished)

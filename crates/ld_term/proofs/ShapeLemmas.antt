@@ -24,23 +24,46 @@ star_count-atom : (t : Written) → star_count (atom_tokens t) ≡ written_produ
 star_count-atom leaf = refl
 star_count-atom (named bytes place) = refl
 star_count-atom (times a b) =
-    omega (arith, star_count-append (atom_tokens a) (star ∷ (atom_tokens b ++ (close_bracket ∷ []))), star_count-append (atom_tokens b) (close_bracket ∷ []), star_count-atom a, star_count-atom b)
+    omega (
+      arith,
+      star_count-append (atom_tokens a) (star ∷ (atom_tokens b ++ (close_bracket ∷ []))),
+      star_count-append (atom_tokens b) (close_bracket ∷ []),
+      star_count-atom a,
+      star_count-atom b,
+    )
 
 -- and so has a text of a term
-pub star_count-text : (strict : Bool) (tokens : List Token) (t : Written) → IsTermText strict tokens t → star_count tokens ≡ written_products t
+pub star_count-text
+    : (strict : Bool) (tokens : List Token) (t : Written)
+    → IsTermText strict tokens t
+    → star_count tokens ≡ written_products t
 star_count-text strict tokens t (atom is) = rw is (star_count-atom t)
 star_count-text strict tokens (times a b) (bare loose is) =
-    rw is (omega (arith, star_count-append (atom_tokens a) (star ∷ atom_tokens b), star_count-atom a, star_count-atom b))
+    rw is (omega (
+      arith,
+      star_count-append (atom_tokens a) (star ∷ atom_tokens b),
+      star_count-atom a,
+      star_count-atom b,
+    ))
 
 -- a term is lower than its tokens are many
 height-atom : (t : Written) → written_height t + 1 ≤ length (atom_tokens t)
 height-atom leaf = omega arith
 height-atom (named bytes place) = omega arith
 height-atom (times a b) =
-    omega (arith, length-append (atom_tokens a) (star ∷ (atom_tokens b ++ (close_bracket ∷ []))), length-append (atom_tokens b) (close_bracket ∷ []), height-atom a, height-atom b)
+    omega (
+      arith,
+      length-append (atom_tokens a) (star ∷ (atom_tokens b ++ (close_bracket ∷ []))),
+      length-append (atom_tokens b) (close_bracket ∷ []),
+      height-atom a,
+      height-atom b,
+    )
 
 -- and than those of its text
-pub height-text : (strict : Bool) (tokens : List Token) (t : Written) → IsTermText strict tokens t → written_height t + 1 ≤ length tokens
+pub height-text
+    : (strict : Bool) (tokens : List Token) (t : Written)
+    → IsTermText strict tokens t
+    → written_height t + 1 ≤ length tokens
 height-text strict tokens t (atom is) = rw is (height-atom t)
 height-text strict tokens (times a b) (bare loose is) =
     rw is (omega (arith, length-append (atom_tokens a) (star ∷ atom_tokens b), height-atom a, height-atom b))
@@ -70,25 +93,33 @@ behind
     → tokens_from strict from line ≡ before ++ tokens_from strict at line
     → IsPiece strict line at kind first end
     → tokens_from strict from line
-    ≡ before ++ (record { token = token_from kind (take (end - first) (drop first line)) (first + 1); place = first + 1 } ∷ tokens_from strict end line)
-behind strict line from at first end kind before tokens piece = tokens ∙ ap (λ rest. before ++ rest) piece.tokens
+    ≡ before ++ (record {
+      token = token_from kind (take (end - first) (drop first line)) (first + 1);
+      place = first + 1;
+    } ∷ tokens_from strict end line)
+behind strict line from at first end kind before tokens piece =
+    tokens ∙ ap (λ rest. before ++ rest) piece.tokens
 
 -- a token may stand here
 pub read-more
-    : (strict : Bool) (line : List ℕ) (from at first end : ℕ) (kind : Kind) (held left : Option ℕ) (outer : List (Option ℕ)) (products : ℕ)
+    : (strict : Bool) (line : List ℕ) (from at first end : ℕ) (kind : Kind) (held left : Option ℕ)
+    (outer : List (Option ℕ)) (products : ℕ)
     → (new_held new_left : Option ℕ) (new_outer : List (Option ℕ)) (stars : ℕ)
     → IsRead strict line from at held left outer products
     → IsPiece strict line at kind first end
-    → ((bytes : List ℕ) (place : ℕ) (s : State) → IsHeld held left outer s → Moves strict (token_from kind bytes place) s true new_held new_left new_outer)
+    → ((bytes : List ℕ) (place : ℕ) (s : State) → IsHeld held left outer s
+    → Moves strict (token_from kind bytes place) s true new_held new_left new_outer)
     → ((bytes : List ℕ) (place : ℕ) → stars ≡ one_star (token_from kind bytes place))
     → stars ≤ 1
     → IsRead strict line from end new_held new_left new_outer (products + stars)
-read-more strict line from at first end kind held left outer products new_held new_left new_outer stars read piece moves counts one =
+read-more strict line from at first end kind held left outer products new_held new_left new_outer stars read
+    piece moves counts one =
     let bytes = take (end - first) (drop first line) in
     let token = token_from kind bytes (first + 1) in
     let p : Placed = record { token = token; place = first + 1 } in
     let (next, stepped, holds) = moves bytes (first + 1) read.state read.holds in
-    let names : tokens_of (read.before ++ (p ∷ [])) ≡ tokens_of read.before ++ (token ∷ []) = map-append _ read.before (p ∷ []) in
+    let names : tokens_of (read.before ++ (p ∷ [])) ≡ tokens_of read.before ++ (token ∷ []) =
+    map-append _ read.before (p ∷ []) in
     let later = piece.later in
     let few = read.few in
     let counted = read.counted in
@@ -96,19 +127,27 @@ read-more strict line from at first end kind held left outer products new_held n
       before = read.before ++ (p ∷ []);
       state = next;
       within = piece.within;
-      tokens = behind strict line from at first end kind read.before read.tokens piece ∙ sym (append_assoc read.before (p ∷ []) (tokens_from strict end line));
-      reached = rw (names, run-append strict (tokens_of read.before) (token ∷ []) (Some start), read.reached) stepped;
+      tokens = behind strict line from at first end kind read.before read.tokens piece
+          ∙ sym (append_assoc read.before (p ∷ []) (tokens_from strict end line));
+      reached = rw (names, run-append strict (tokens_of read.before) (token ∷ []) (Some start), read.reached)
+          stepped;
       holds = holds;
-      counted = rw names (omega (arith, star_count-append (tokens_of read.before) (token ∷ []), counts bytes (first + 1)));
+      counted = rw names (omega (
+        arith,
+        star_count-append (tokens_of read.before) (token ∷ []),
+        counts bytes (first + 1),
+      ));
       few = omega arith;
     }
 
 -- a token may not stand here
 pub read-stop
-    : (strict : Bool) (line : List ℕ) (from at first end : ℕ) (kind : Kind) (held left : Option ℕ) (outer : List (Option ℕ)) (products : ℕ)
+    : (strict : Bool) (line : List ℕ) (from at first end : ℕ) (kind : Kind) (held left : Option ℕ)
+    (outer : List (Option ℕ)) (products : ℕ)
     → IsRead strict line from at held left outer products
     → IsPiece strict line at kind first end
-    → ((bytes : List ℕ) (place : ℕ) (s : State) → IsHeld held left outer s → step strict (token_from kind bytes place) s ≡ None)
+    → ((bytes : List ℕ) (place : ℕ) (s : State) → IsHeld held left outer s
+    → step strict (token_from kind bytes place) s ≡ None)
     → IsFault (IsTerm strict) (tokens_from strict from line) (length line) (first + 1)
 read-stop strict line from at first end kind held left outer products read piece stops =
     let bytes = take (end - first) (drop first line) in
@@ -116,7 +155,8 @@ read-stop strict line from at first end kind held left outer products read piece
     at_token read.before (tokens_from strict end line) (record { token = token; place = first + 1 })
     (behind strict line from at first end kind read.before read.tokens piece)
     (begins-run strict (tokens_of read.before) read.state read.reached)
-    (begins-not strict (tokens_of read.before) token read.state read.reached (stops bytes (first + 1) read.state read.holds))
+    (begins-not strict (tokens_of read.before) token read.state read.reached
+    (stops bytes (first + 1) read.state read.holds))
     refl
 
 -- all was read
@@ -125,11 +165,13 @@ whole
     → tokens_from strict from line ≡ before ++ tokens_from strict at line
     → tokens_from strict at line ≡ []
     → tokens_of (tokens_from strict from line) ≡ tokens_of before
-whole strict line from at before tokens none = ap tokens_of (tokens ∙ ap (λ rest. before ++ rest) none ∙ append-nil before)
+whole strict line from at before tokens none =
+    ap tokens_of (tokens ∙ ap (λ rest. before ++ rest) none ∙ append-nil before)
 
 -- the line ends too early
 pub read-early
-    : (strict : Bool) (line : List ℕ) (from at : ℕ) (held left : Option ℕ) (outer : List (Option ℕ)) (products : ℕ)
+    : (strict : Bool) (line : List ℕ) (from at : ℕ) (held left : Option ℕ) (outer : List (Option ℕ))
+    (products : ℕ)
     → IsRead strict line from at held left outer products
     → tokens_from strict at line ≡ []
     → ((s : State) → IsHeld held left outer s → None ≡ left_height (finish s))
@@ -153,7 +195,8 @@ pub record IsShape (strict : Bool) (line : List ℕ) (from height products : ℕ
 
 -- the line is a term
 pub read-whole
-    : (strict : Bool) (line : List ℕ) (from at : ℕ) (held left : Option ℕ) (outer : List (Option ℕ)) (products height : ℕ)
+    : (strict : Bool) (line : List ℕ) (from at : ℕ) (held left : Option ℕ) (outer : List (Option ℕ))
+    (products height : ℕ)
     → IsRead strict line from at held left outer products
     → tokens_from strict at line ≡ []
     → ((s : State) → IsHeld held left outer s → Some height ≡ left_height (finish s))
@@ -161,26 +204,42 @@ pub read-whole
 read-whole strict line from at held left outer products height read none is =
     by_finish (finish read.state) refl (is read.state read.holds)
   where
-    by_finish : (o : Option Written) → finish read.state ≡ o → Some height ≡ left_height o → IsShape strict line from height products
+    by_finish
+        : (o : Option Written)
+        → finish read.state ≡ o
+        → Some height ≡ left_height o
+        → IsShape strict line from height products
     by_finish None ends same = cc
     by_finish (Some t) ends same =
         let all = whole strict line from at read.before read.tokens none in
-        let text : IsTermText strict (tokens_of read.before) t = text-run strict (tokens_of read.before) read.state t read.reached ends in
-        record { term = t; text = rw all text; height_is = cc; products_are = read.counted ∙ star_count-text strict (tokens_of read.before) t text }
+        let text : IsTermText strict (tokens_of read.before) t =
+        text-run strict (tokens_of read.before) read.state t read.reached ends in
+        record {
+          term = t;
+          text = rw all text;
+          height_is = cc;
+          products_are = read.counted
+              ∙ star_count-text strict (tokens_of read.before) t text;
+        }
 
 -- ---- Bounds ----
 
 -- there are no more tokens than bytes
-length-lex : (strict in_run : Bool) (place : ℕ) (bytes : List ℕ) → length (lex strict in_run place bytes) ≤ length bytes
+length-lex
+    : (strict in_run : Bool) (place : ℕ) (bytes : List ℕ)
+    → length (lex strict in_run place bytes) ≤ length bytes
 unfolding lex
 length-lex strict in_run place [] = omega arith
 length-lex strict in_run place (byte ∷ bytes) =
-    by_tests in_run (is_name_byte byte) (not strict && (byte == 32)) _ _ (length-lex strict true (place + 1) bytes) (length-lex strict false (place + 1) bytes)
+    by_tests in_run (is_name_byte byte) (not strict && (byte == 32)) _ _
+    (length-lex strict true (place + 1) bytes) (length-lex strict false (place + 1) bytes)
   where
     by_tests : (a b c : Bool) (p q : Placed)
         → length (lex strict true (place + 1) bytes) ≤ length bytes
         → length (lex strict false (place + 1) bytes) ≤ length bytes
-        → length (cond b (cond a (lex strict true (place + 1) bytes) (p ∷ lex strict true (place + 1) bytes)) (cond c (lex strict false (place + 1) bytes) (q ∷ lex strict false (place + 1) bytes))) ≤ suc (length bytes)
+        → length (cond b (cond a (lex strict true (place + 1) bytes) (p ∷ lex strict true (place + 1) bytes))
+        (cond c (lex strict false (place + 1) bytes) (q ∷ lex strict false (place + 1) bytes)))
+        ≤ suc (length bytes)
     by_tests true true c p q one two = omega arith
     by_tests false true c p q one two = omega arith
     by_tests a false true p q one two = omega arith
@@ -193,7 +252,12 @@ pub height-line
     → written_height t < length line
 height-line strict line from t text =
     let high = height-text strict (tokens_of (tokens_from strict from line)) t text in
-    omega (arith, length-map (tokens_from strict from line) (λ (p : Placed). p.token), length-lex strict false (from + 1) (drop from line), length-drop from line)
+    omega (
+      arith,
+      length-map (tokens_from strict from line) (λ (p : Placed). p.token),
+      length-lex strict false (from + 1) (drop from line),
+      length-drop from line,
+    )
 
 -- a kept height is the height
 pub shape-height

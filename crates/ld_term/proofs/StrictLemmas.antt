@@ -46,7 +46,8 @@ HasTokens-x
     → HasTokens (120 ∷ bytes) (variable_token ∷ tokens)
 unfolding lex
 HasTokens-x bytes tokens ends behind place =
-    let run : run_token true (take (prefix_len is_name_byte (120 ∷ bytes)) (120 ∷ bytes)) place ≡ variable_token =
+    let run : run_token true (take (prefix_len is_name_byte (120 ∷ bytes)) (120 ∷ bytes)) place
+    ≡ variable_token =
     rw (prefix-x bytes ends) refl in
     let more : tokens_of (lex true true (place + 1) bytes) ≡ tokens =
     ap tokens_of (lex-ends (place + 1) bytes ends) ∙ behind (place + 1) in
@@ -73,7 +74,8 @@ pub bracketed
     → (first ∷ (l ++ (middle ∷ (r ++ (last ∷ []))))) ++ rest ≡ first ∷ (l ++ (middle ∷ (r ++ (last ∷ rest))))
 bracketed first middle last l r rest =
     ap (λ z. first ∷ z)
-    (append_assoc l (middle ∷ (r ++ (last ∷ []))) rest ∙ ap (λ z. l ++ (middle ∷ z)) (append_assoc r (last ∷ []) rest))
+    (append_assoc l (middle ∷ (r ++ (last ∷ []))) rest
+    ∙ ap (λ z. l ++ (middle ∷ z)) (append_assoc r (last ∷ []) rest))
 
 -- the tokens of a strict text, with anything behind it
 lex-strict_text
@@ -90,7 +92,8 @@ lex-strict_text (multiply t u) bytes tokens ends behind place =
     let whole = HasTokens-byte 40 _ _ refl left in
     ap (λ z. tokens_of (lex true false place z)) (bracketed 40 42 41 (strict_text t) (strict_text u) bytes)
     ∙ whole place
-    ∙ sym (bracketed open_bracket star close_bracket (atom_tokens (as_written t)) (atom_tokens (as_written u)) tokens)
+    ∙ sym (bracketed open_bracket star close_bracket (atom_tokens (as_written t)) (atom_tokens (as_written u))
+    tokens)
 
 -- ---- Texts ----
 
@@ -123,7 +126,8 @@ pub strict_text-inj : (t u : Term) → strict_text t ≡ strict_text u → t ≡
 strict_text-inj t u is =
     let first = IsTermText-strict_text t in
     let second =
-    subst (λ z. IsTermText true (tokens_of (tokens_from true 0 z)) (as_written u)) (sym is) (IsTermText-strict_text u) in
+    subst (λ z. IsTermText true (tokens_of (tokens_from true 0 z)) (as_written u)) (sym is)
+    (IsTermText-strict_text u) in
     as_written-inj t u (text-unique true _ (as_written t) (as_written u) first second)
 
 -- ---- Sizes ----
@@ -136,7 +140,8 @@ written_height-as_written (multiply t u) = rw (written_height-as_written t, writ
 -- it has one leaf more than products
 pub written_products-as_written : (t : Term) → written_products (as_written t) + 1 ≡ leaf_count t
 written_products-as_written variable = refl
-written_products-as_written (multiply t u) = omega (arith, written_products-as_written t, written_products-as_written u)
+written_products-as_written (multiply t u) =
+    omega (arith, written_products-as_written t, written_products-as_written u)
 
 -- a strict text has one byte for each leaf and three for each product
 pub length-strict_text : (t : Term) → length (strict_text t) + 3 ≡ 4 * leaf_count t

@@ -14,7 +14,7 @@ use Rattle.std.proofs.lemmas.List.Sums.{take_while-cons}
 use Rattle.std.proofs.lemmas.Option.{none-some}
 use Rattle.std.proofs.lemmas.Result.{IfOk-weaker, IfErr-weaker}
 use Rattle.std.proofs.lemmas.Slice.Eq.{bytes_eq-Decides}
-use Rattle.ld_term.proofs.EqualLemmas.{head_is, tail_is, nil_cons}
+use Rattle.wb_base.proofs.PartLemmas.{first_is, rest_is, nil_cons}
 use Rattle.wb_base.specs.Names.{is_name_byte}
 use Rattle.ld_term.specs.Terms.{Term, variable, multiply, leaf_count}
 use Rattle.ld_term.specs.Written.{Written, leaf, named, times, HasNoName, written_height, written_products}
@@ -52,11 +52,18 @@ strict_term_of-strict_text t =
     ap (spelled (strict_text t)) held ∙ rw ((bytes_eq-Decides (strict_text t) (strict_text t)).1 refl) refl
 
 -- what is spelled so is the strict text
-spelled-is : (bytes : List ℕ) (held : List Term) (t : Term) → spelled bytes held ≡ Some t → bytes ≡ strict_text t
+spelled-is
+    : (bytes : List ℕ) (held : List Term) (t : Term)
+    → spelled bytes held ≡ Some t
+    → bytes ≡ strict_text t
 spelled-is bytes [] t is = absurd (none-some t is)
 spelled-is bytes (u ∷ held) t is = by_test (bytes_eq (strict_text u) bytes) refl is
   where
-    by_test : (b : Bool) → bytes_eq (strict_text u) bytes ≡ b → cond b (Some u) None ≡ Some t → bytes ≡ strict_text t
+    by_test
+        : (b : Bool)
+        → bytes_eq (strict_text u) bytes ≡ b
+        → cond b (Some u) None ≡ Some t
+        → bytes ≡ strict_text t
     by_test false other is = absurd (none-some t is)
     by_test true same is = sym ((bytes_eq-Decides (strict_text u) bytes).0 same) ∙ ap strict_text (some_is is)
       where
@@ -105,8 +112,11 @@ strict-atom : (w : Written) → HasNoName w → AreStrict (atom_tokens w)
 strict-atom leaf p = (tt, tt)
 strict-atom (named bytes place) p = absurd p
 strict-atom (times a b) p =
-    let right = strict-append (atom_tokens b) (close_bracket ∷ []) (strict-atom b p.1) (tt, tt) in
-    (tt, strict-append (atom_tokens a) (star ∷ (atom_tokens b ++ (close_bracket ∷ []))) (strict-atom a p.0) (tt, right))
+    let right = strict-append (atom_tokens b) (close_bracket ∷ []) (strict-atom b p.1) (tt, tt) in (
+      tt,
+      strict-append (atom_tokens a) (star ∷ (atom_tokens b ++ (close_bracket ∷ []))) (strict-atom a p.0)
+          (tt, right),
+    )
 
 -- and their bytes are its text
 bytes-atom : (w : Written) → HasNoName w → flat_map token_bytes (atom_tokens w) ≡ term_text w
@@ -126,7 +136,8 @@ bytes-byte byte p = by_tests (byte == 40) (byte == 41) (byte == 42) (byte == 61)
   where
     by_tests : (a b c d : Bool) → (byte == 40) ≡ a → (byte == 41) ≡ b → (byte == 42) ≡ c
         → IsStrict (cond a open_bracket (cond b close_bracket (cond c star (cond d equals bad))))
-        → byte ∷ [] ≡ token_bytes (cond a open_bracket (cond b close_bracket (cond c star (cond d equals bad))))
+        → byte ∷ [] ≡ token_bytes (cond a open_bracket
+        (cond b close_bracket (cond c star (cond d equals bad))))
     by_tests true b c d is_a is_b is_c p = ap (λ z. z ∷ []) (eqb-true byte 40 is_a)
     by_tests false true c d is_a is_b is_c p = ap (λ z. z ∷ []) (eqb-true byte 41 is_b)
     by_tests false false true d is_a is_b is_c p = ap (λ z. z ∷ []) (eqb-true byte 42 is_c)
@@ -161,15 +172,17 @@ run-x
     → is_name_byte byte ≡ true
     → IsStrict (run_token true (take_while is_name_byte (byte ∷ bytes)) place)
     → IsX byte bytes (run_token true (take_while is_name_byte (byte ∷ bytes)) place)
-run-x place byte bytes in_run p = by_test (bytes_eq (take_while is_name_byte (byte ∷ bytes)) (codes "x")) refl p
+run-x place byte bytes in_run p =
+    by_test (bytes_eq (take_while is_name_byte (byte ∷ bytes)) (codes "x")) refl p
   where
     by_test : (b : Bool) → bytes_eq (take_while is_name_byte (byte ∷ bytes)) (codes "x") ≡ b
         → IsStrict (cond b variable_token bad) → IsX byte bytes (cond b variable_token bad)
     by_test false other p = absurd p
     by_test true same p =
         let whole : byte ∷ take_while is_name_byte bytes ≡ 120 ∷ [] =
-        sym (run-first byte bytes in_run) ∙ (bytes_eq-Decides (take_while is_name_byte (byte ∷ bytes)) (codes "x")).0 same in
-        record { is = head_is whole; ends = run-ended bytes (tail_is whole); token_is = refl }
+        sym (run-first byte bytes in_run)
+        ∙ (bytes_eq-Decides (take_while is_name_byte (byte ∷ bytes)) (codes "x")).0 same in
+        record { is = first_is whole; ends = run-ended bytes (rest_is whole); token_is = refl }
 
 -- the bytes of such tokens of a strict reading are what was read
 bytes-lex
@@ -186,10 +199,16 @@ bytes-lex place (byte ∷ bytes) p = by_test (bytes-lex (place + 1) bytes) (is_n
     other : Placed
     other = record { token = byte_token byte; place = place }
 
-    by_test : (AreStrict (tokens_of (lex true false (place + 1) bytes)) → bytes ≡ flat_map token_bytes (tokens_of (lex true false (place + 1) bytes)))
+    by_test
+        : (AreStrict (tokens_of (lex true false (place + 1) bytes))
+        → bytes ≡ flat_map token_bytes (tokens_of (lex true false (place + 1) bytes)))
         → (b : Bool) → is_name_byte byte ≡ b
-        → AreStrict (tokens_of (cond b (first ∷ lex true true (place + 1) bytes) (other ∷ lex true false (place + 1) bytes)))
-        → byte ∷ bytes ≡ flat_map token_bytes (tokens_of (cond b (first ∷ lex true true (place + 1) bytes) (other ∷ lex true false (place + 1) bytes)))
+        → AreStrict (tokens_of (cond b (first ∷ lex true true (place + 1) bytes)
+        (other ∷ lex true false (place + 1) bytes)))
+        → byte ∷ bytes
+        ≡ flat_map token_bytes
+        (tokens_of (cond b (first ∷ lex true true (place + 1) bytes)
+        (other ∷ lex true false (place + 1) bytes)))
     by_test more false out p = λ i. bytes-byte byte p.0 i ++ more p.1 i
     by_test more true in_run p =
         let x = run-x place byte bytes in_run p.0 in
@@ -235,7 +254,8 @@ strict-none bytes end place fault = by_read (strict_term_of bytes) refl
     by_read None is = refl
     by_read (Some t) is =
         let whole = sym (strict_term_of-is bytes t is) in
-        let text = subst (λ z. IsTermText true (tokens_of (tokens_from true 0 z)) (as_written t)) whole (IsTermText-strict_text t) in
+        let text = subst (λ z. IsTermText true (tokens_of (tokens_from true 0 z)) (as_written t)) whole
+        (IsTermText-strict_text t) in
         absurd (fault-none (IsTerm true) (tokens_from true 0 bytes) end place fault (as_written t, text))
 
 -- why the grammar doesn't take a strict text is why its term isn't read
@@ -245,8 +265,13 @@ strict-refused
     → IsStrictRefusal (strict_term_of bytes) e
 strict-refused bytes end (Form place) fault = strict-none bytes end place fault
 strict-refused bytes end (TooDeep high) (w, text, deep) =
-    let (t, read, term) = strict-term bytes w text in
-    (t, read, deep.is ∙ ap written_height term ∙ written_height-as_written t, subst (λ n. MAX_HEIGHT < n) (sym deep.is) deep.above)
+    let (t, read, term) = strict-term bytes w text in (
+      t,
+      read,
+      deep.is ∙ ap written_height term
+          ∙ written_height-as_written t,
+      subst (λ n. MAX_HEIGHT < n) (sym deep.is) deep.above,
+    )
 strict-refused bytes end (TooMany count) (w, text, large) =
     let (t, read, term) = strict-term bytes w text in
     let count_is : count + 1 ≡ leaf_count t =

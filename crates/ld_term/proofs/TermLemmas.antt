@@ -15,13 +15,19 @@ IsEquivalent-sym (forward step chain) = IsEquivalent-trans (IsEquivalent-sym cha
 IsEquivalent-sym (backward step chain) = IsEquivalent-trans (IsEquivalent-sym chain) (forward step (stay _))
 
 -- an equivalence of the left part
-pub IsEquivalent-left : {t u : Term} (v : Term) → IsEquivalent t u → IsEquivalent (multiply t v) (multiply u v)
+pub IsEquivalent-left
+    : {t u : Term} (v : Term)
+    → IsEquivalent t u
+    → IsEquivalent (multiply t v) (multiply u v)
 IsEquivalent-left v (stay t) = stay (multiply t v)
 IsEquivalent-left v (forward step chain) = forward (on_left v step) (IsEquivalent-left v chain)
 IsEquivalent-left v (backward step chain) = backward (on_left v step) (IsEquivalent-left v chain)
 
 -- an equivalence of the right part
-pub IsEquivalent-right : {t u : Term} (v : Term) → IsEquivalent t u → IsEquivalent (multiply v t) (multiply v u)
+pub IsEquivalent-right
+    : {t u : Term} (v : Term)
+    → IsEquivalent t u
+    → IsEquivalent (multiply v t) (multiply v u)
 IsEquivalent-right v (stay t) = stay (multiply v t)
 IsEquivalent-right v (forward step chain) = forward (on_right v step) (IsEquivalent-right v chain)
 IsEquivalent-right v (backward step chain) = backward (on_right v step) (IsEquivalent-right v chain)

@@ -10,14 +10,15 @@ use Rattle.ld_term.specs.declared.TheConstants.{MAX_HEIGHT}
 use Rattle.ld_term.specs.declared.token.Kind.{Kind}
 use Rattle.ld_term.specs.declared.token.Kind.TheVariants as kinds
 use Rattle.ld_term.specs.declared.tree.Tree.{Tree}
-use Rattle.ld_term.proofs.EqualLemmas.{tail_is}
+use Rattle.wb_base.proofs.PartLemmas.{rest_is}
 
 -- a piece's token, and the tokens behind it
 pub piece-tokens
     : (strict : Bool) (line : List ℕ) (from : ℕ) (kind : Kind) (first end : ℕ)
     → IsPiece strict line from kind first end
     → tokens_of (tokens_from strict from line)
-    ≡ token_from kind (take (end - first) (drop first line)) (first + 1) ∷ tokens_of (tokens_from strict end line)
+    ≡ token_from kind (take (end - first) (drop first line)) (first + 1) ∷ tokens_of
+    (tokens_from strict end line)
 piece-tokens strict line from kind first end piece = ap tokens_of piece.tokens
 
 -- an atom has a token
@@ -27,8 +28,11 @@ atom-some (named bytes place) rest e = cc
 atom-some (times a b) rest e = cc
 
 -- an atom that begins with the variable is it
-pub atom-variable : (t : Written) (more rest : List Token) → variable ∷ more ≡ atom_tokens t ++ rest → (leaf ≡ t) × (more ≡ rest)
-atom-variable leaf more rest e = (refl, tail_is e)
+pub atom-variable
+    : (t : Written) (more rest : List Token)
+    → variable ∷ more ≡ atom_tokens t ++ rest
+    → (leaf ≡ t) × (more ≡ rest)
+atom-variable leaf more rest e = (refl, rest_is e)
 atom-variable (named bytes place) more rest e = cc
 atom-variable (times a b) more rest e = cc
 
@@ -38,7 +42,7 @@ pub atom-name
     → name bytes place ∷ more ≡ atom_tokens t ++ rest
     → (named bytes place ≡ t) × (more ≡ rest)
 atom-name bytes place leaf more rest e = cc
-atom-name bytes place (named other at) more rest e = (cc, tail_is e)
+atom-name bytes place (named other at) more rest e = (cc, rest_is e)
 atom-name bytes place (times a b) more rest e = cc
 
 -- The term is a product, and these are the tokens behind its first bracket.
@@ -49,10 +53,14 @@ pub record IsTimes (t : Written) (more rest : List Token) : Type 0 where
   pub tokens : more ≡ atom_tokens left ++ (star ∷ (atom_tokens right ++ (close_bracket ∷ rest)))
 
 -- an atom that begins with a bracket is a product
-pub atom-times : (t : Written) (more rest : List Token) → open_bracket ∷ more ≡ atom_tokens t ++ rest → IsTimes t more rest
+pub atom-times
+    : (t : Written) (more rest : List Token)
+    → open_bracket ∷ more ≡ atom_tokens t ++ rest
+    → IsTimes t more rest
 atom-times leaf more rest e = cc
 atom-times (named bytes place) more rest e = cc
-atom-times (times a b) more rest e = record { left = a; right = b; is = refl; tokens = tail_is e ∙ simp append_assoc }
+atom-times (times a b) more rest e =
+    record { left = a; right = b; is = refl; tokens = rest_is e ∙ simp append_assoc }
 
 -- no atom begins with another token
 pub atom-close : (t : Written) (more rest : List Token) → close_bracket ∷ more ≡ atom_tokens t ++ rest → ⊥
@@ -95,16 +103,20 @@ atom-other kinds.Bad bytes place t more rest no_open no_variable no_name e = ato
 
 -- a piece is the first token of an atom
 pub piece-atom
-    : (strict : Bool) (line : List ℕ) (from : ℕ) (kind : Kind) (first end : ℕ) (t : Written) (rest : List Token)
+    : (strict : Bool) (line : List ℕ) (from : ℕ) (kind : Kind) (first end : ℕ) (t : Written)
+    (rest : List Token)
     → IsPiece strict line from kind first end
     → tokens_of (tokens_from strict from line) ≡ atom_tokens t ++ rest
-    → token_from kind (take (end - first) (drop first line)) (first + 1) ∷ tokens_of (tokens_from strict end line)
+    → token_from kind (take (end - first) (drop first line)) (first + 1) ∷ tokens_of
+    (tokens_from strict end line)
     ≡ atom_tokens t ++ rest
-piece-atom strict line from kind first end t rest piece e = sym (piece-tokens strict line from kind first end piece) ∙ e
+piece-atom strict line from kind first end t rest piece e =
+    sym (piece-tokens strict line from kind first end piece) ∙ e
 
 -- behind an opening bracket
 pub opened
-    : (strict : Bool) (line : List ℕ) (from : ℕ) (kind : Kind) (first end : ℕ) (t : Written) (rest : List Token)
+    : (strict : Bool) (line : List ℕ) (from : ℕ) (kind : Kind) (first end : ℕ) (t : Written)
+    (rest : List Token)
     → IsPiece strict line from kind first end
     → kind ≡ kinds.Open
     → tokens_of (tokens_from strict from line) ≡ atom_tokens t ++ rest
@@ -112,12 +124,14 @@ pub opened
 opened strict line from kind first end t rest piece is e =
     let bytes = take (end - first) (drop first line) in
     atom-times t (tokens_of (tokens_from strict end line)) rest
-    (subst (λ k. token_from k bytes (first + 1) ∷ tokens_of (tokens_from strict end line) ≡ atom_tokens t ++ rest) is
+    (subst (λ k. token_from k bytes (first + 1) ∷ tokens_of (tokens_from strict end line)
+    ≡ atom_tokens t ++ rest) is
     (piece-atom strict line from kind first end t rest piece e))
 
 -- the variable is read
 pub variable-atom
-    : (strict : Bool) (line : List ℕ) (from : ℕ) (kind : Kind) (first end : ℕ) (t : Written) (rest : List Token) (tree : Tree)
+    : (strict : Bool) (line : List ℕ) (from : ℕ) (kind : Kind) (first end : ℕ) (t : Written)
+    (rest : List Token) (tree : Tree)
     → IsPiece strict line from kind first end
     → kind ≡ kinds.Variable
     → written tree ≡ leaf
@@ -126,13 +140,15 @@ pub variable-atom
 variable-atom strict line from kind first end t rest tree piece is whole e =
     let bytes = take (end - first) (drop first line) in
     let (term, more) = atom-variable t (tokens_of (tokens_from strict end line)) rest
-    (subst (λ k. token_from k bytes (first + 1) ∷ tokens_of (tokens_from strict end line) ≡ atom_tokens t ++ rest) is
+    (subst (λ k. token_from k bytes (first + 1) ∷ tokens_of (tokens_from strict end line)
+    ≡ atom_tokens t ++ rest) is
     (piece-atom strict line from kind first end t rest piece e)) in
     record { tree_is = whole ∙ term; ends = record { within = piece.within; tokens = more } }
 
 -- a name is read
 pub name-atom
-    : (strict : Bool) (line : List ℕ) (from : ℕ) (kind : Kind) (first end : ℕ) (t : Written) (rest : List Token) (tree : Tree)
+    : (strict : Bool) (line : List ℕ) (from : ℕ) (kind : Kind) (first end : ℕ) (t : Written)
+    (rest : List Token) (tree : Tree)
     → IsPiece strict line from kind first end
     → kind ≡ kinds.Name
     → written tree ≡ named (take (end - first) (drop first line)) (first + 1)
@@ -141,18 +157,22 @@ pub name-atom
 name-atom strict line from kind first end t rest tree piece is whole e =
     let bytes = take (end - first) (drop first line) in
     let (term, more) = atom-name bytes (first + 1) t (tokens_of (tokens_from strict end line)) rest
-    (subst (λ k. token_from k bytes (first + 1) ∷ tokens_of (tokens_from strict end line) ≡ atom_tokens t ++ rest) is
+    (subst (λ k. token_from k bytes (first + 1) ∷ tokens_of (tokens_from strict end line)
+    ≡ atom_tokens t ++ rest) is
     (piece-atom strict line from kind first end t rest piece e)) in
     record { tree_is = whole ∙ term; ends = record { within = piece.within; tokens = more } }
 
 -- What reading an atom at one place says.
 abbrev pub ReadsAtom : Bool → List ℕ → ℕ → ℕ → Tree → Type 0
 ReadsAtom strict line from at tree =
-    (t : Written) (rest : List Token) → tokens_of (tokens_from strict from line) ≡ atom_tokens t ++ rest → IsAtom strict line at tree t rest
+    (t : Written) (rest : List Token) → tokens_of (tokens_from strict from line) ≡ atom_tokens t ++ rest
+    → IsAtom strict line at tree t rest
 
 -- What skipping a token at one place says.
 abbrev pub Skips : Bool → List ℕ → ℕ → ℕ → Type 0
-Skips strict line from at = (token : Token) (rest : List Token) → IsBehind strict line from (token ∷ rest) → IsBehind strict line at rest
+Skips strict line from at =
+    (token : Token) (rest : List Token) → IsBehind strict line from (token ∷ rest)
+    → IsBehind strict line at rest
 
 -- behind the left part
 pub behind-left
@@ -174,7 +194,8 @@ behind-star strict line from at next left t rest parts reads skips =
 
 -- behind the right part
 pub behind-right
-    : (strict : Bool) (line : List ℕ) (from at next last : ℕ) (left right : Tree) (t : Written) (rest : List Token)
+    : (strict : Bool) (line : List ℕ) (from at next last : ℕ) (left right : Tree) (t : Written)
+    (rest : List Token)
     → (parts : IsTimes t (tokens_of (tokens_from strict from line)) rest)
     → ReadsAtom strict line from at left
     → Skips strict line at next
@@ -185,7 +206,8 @@ behind-right strict line from at next last left right t rest parts reads skips e
 
 -- a product is read
 pub times-atom
-    : (strict : Bool) (line : List ℕ) (from at next last end : ℕ) (left right tree : Tree) (t : Written) (rest : List Token)
+    : (strict : Bool) (line : List ℕ) (from at next last end : ℕ) (left right tree : Tree) (t : Written)
+    (rest : List Token)
     → (parts : IsTimes t (tokens_of (tokens_from strict from line)) rest)
     → ReadsAtom strict line from at left
     → Skips strict line at next
@@ -195,10 +217,12 @@ pub times-atom
     → IsAtom strict line end tree t rest
 times-atom strict line from at next last end left right tree t rest parts reads skips ends closes whole =
     let one = (reads parts.left _ parts.tokens).tree_is in
-    let two = (ends parts.right _ (behind-star strict line from at next left t rest parts reads skips).tokens).tree_is in
+    let two = (ends parts.right _ (behind-star strict line from at next left t rest parts reads
+    skips).tokens).tree_is in
     record {
       tree_is = whole ∙ rw (one, two) (sym parts.is);
-      ends = closes close_bracket rest (behind-right strict line from at next last left right t rest parts reads skips ends);
+      ends = closes close_bracket rest
+          (behind-right strict line from at next last left right t rest parts reads skips ends);
     }
 
 -- the parts of a product are lower
@@ -208,12 +232,17 @@ pub parts-low
     → written_height t ≤ depth
     → (written_height a + 1 ≤ depth) × (written_height b + 1 ≤ depth)
 parts-low t a b depth is low =
-    let same : written_height t ≡ written_height (times a b) = ap written_height is in (omega arith, omega arith)
+    let same : written_height t ≡ written_height (times a b) =
+    ap written_height is in (omega arith, omega arith)
 
 -- ---- Terms ----
 
 -- behind no token there is nothing
-none_behind : {tokens : List Token} {token : Token} {more : List Token} → tokens ≡ [] → tokens ≡ token ∷ more → ⊥
+none_behind
+    : {tokens : List Token} {token : Token} {more : List Token}
+    → tokens ≡ []
+    → tokens ≡ token ∷ more
+    → ⊥
 none_behind none is = cc
 
 -- a text begins with an atom
@@ -224,7 +253,13 @@ pub text-starts
     → IsSmall t
     → StartsAtom strict line from MAX_HEIGHT
 text-starts strict line from t within (atom is) small =
-    record { within = within; term = t; rest = []; tokens = is ∙ sym (append-nil (atom_tokens t)); low = small.low }
+    record {
+      within = within;
+      term = t;
+      rest = [];
+      tokens = is ∙ sym (append-nil (atom_tokens t));
+      low = small.low;
+    }
 text-starts strict line from (times a b) within (bare loose is) small =
     let low = small.low in
     record { within = within; term = a; rest = star ∷ atom_tokens b; tokens = is; low = omega arith }
@@ -255,7 +290,8 @@ pub text-bare
     → IsPiece strict line at kind first end
     → IsBare strict line at left t
 text-bare strict line from at left t kind first end (atom is) reads piece =
-    absurd (none_behind (reads t [] (is ∙ sym (append-nil (atom_tokens t)))).ends.tokens (piece-tokens strict line at kind first end piece))
+    absurd (none_behind (reads t [] (is ∙ sym (append-nil (atom_tokens t)))).ends.tokens
+    (piece-tokens strict line at kind first end piece))
 text-bare strict line from at left (times a b) kind first end (bare loose is) reads piece =
     let read = reads a (star ∷ atom_tokens b) is in
     record { second = b; term_is = rw read.tree_is refl; tokens = read.ends.tokens }
@@ -267,7 +303,8 @@ second-tokens
     → IsPiece strict line at kind first end
     → tokens_of (tokens_from strict end line) ≡ atom_tokens parts.second ++ []
 second-tokens strict line at left t kind first end parts piece =
-    tail_is (sym (piece-tokens strict line at kind first end piece) ∙ parts.tokens) ∙ sym (append-nil (atom_tokens parts.second))
+    rest_is (sym (piece-tokens strict line at kind first end piece) ∙ parts.tokens)
+    ∙ sym (append-nil (atom_tokens parts.second))
 
 -- it is an atom that is no higher than the term
 pub second-starts
@@ -288,7 +325,8 @@ second-starts strict line at left t kind first end parts piece small =
 
 -- both parts are the term
 pub second-tree
-    : (strict : Bool) (line : List ℕ) (at last : ℕ) (left right : Tree) (t : Written) (kind : Kind) (first end : ℕ)
+    : (strict : Bool) (line : List ℕ) (at last : ℕ) (left right : Tree) (t : Written) (kind : Kind)
+    (first end : ℕ)
     → IsBare strict line at left t
     → IsPiece strict line at kind first end
     → ReadsAtom strict line end last right
@@ -303,5 +341,7 @@ pub text-within
     → IsTermText strict (tokens_of (tokens_from strict from line)) t
     → ReadsAtom strict line from at left
     → at ≤ length line
-text-within strict line from at left t (atom is) reads = (reads t [] (is ∙ sym (append-nil (atom_tokens t)))).ends.within
-text-within strict line from at left (times a b) (bare loose is) reads = (reads a (star ∷ atom_tokens b) is).ends.within
+text-within strict line from at left t (atom is) reads =
+    (reads t [] (is ∙ sym (append-nil (atom_tokens t)))).ends.within
+text-within strict line from at left (times a b) (bare loose is) reads =
+    (reads a (star ∷ atom_tokens b) is).ends.within

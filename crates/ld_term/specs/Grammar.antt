@@ -27,7 +27,11 @@ atom_tokens (times a b) = open_bracket ∷ (atom_tokens a ++ (star ∷ (atom_tok
 -- The tokens are a text of the term; in the strict spelling the outermost brackets are there.
 pub data IsTermText (strict : Bool) (tokens : List Token) : Written → Type 0 where
   atom : {t : Written} → tokens ≡ atom_tokens t → IsTermText strict tokens t
-  bare : {a b : Written} → strict ≡ false → tokens ≡ atom_tokens a ++ (star ∷ atom_tokens b) → IsTermText strict tokens (times a b)
+  bare
+      : {a b : Written}
+      → strict ≡ false
+      → tokens ≡ atom_tokens a ++ (star ∷ atom_tokens b)
+      → IsTermText strict tokens (times a b)
 
 -- The tokens are a text of some term.
 abbrev pub IsTerm : Bool → List Token → Type 0

@@ -44,11 +44,13 @@ outer_heights (k ∷ ks) = outer_heights ks ++ (left_height k ∷ [])
 -- The heights are those of the state.
 abbrev pub IsHeld : Option ℕ → Option ℕ → List (Option ℕ) → State → Type 0
 IsHeld held left outer (expecting k ks) = (held ≡ None) × (left ≡ left_height k) × (outer ≡ outer_heights ks)
-IsHeld held left outer (holding t k ks) = (held ≡ Some (kept_height t)) × (left ≡ left_height k) × (outer ≡ outer_heights ks)
+IsHeld held left outer (holding t k ks) =
+    (held ≡ Some (kept_height t)) × (left ≡ left_height k) × (outer ≡ outer_heights ks)
 
 -- The state after a token, where it moves on, and that it may not stand there, where it doesn't.
 abbrev pub Moves : Bool → Token → State → Bool → Option ℕ → Option ℕ → List (Option ℕ) → Type 0
-Moves strict token s true held left outer = (r : State) × (step strict token s ≡ Some r) × IsHeld held left outer r
+Moves strict token s true held left outer =
+    (r : State) × (step strict token s ≡ Some r) × IsHeld held left outer r
 Moves strict token s false held left outer = step strict token s ≡ None
 
 -- The next token starts at this place, or the line ends there.
@@ -56,7 +58,10 @@ pub record IsStart (strict : Bool) (line : List ℕ) (from start : ℕ) : Type 0
   pub within : start ≤ length line
   pub later : from ≤ start
   pub tokens : tokens_from strict from line ≡ tokens_from strict start line
-  pub ends : (byte : ℕ) (bytes : List ℕ) → drop start line ≡ byte ∷ bytes → (not strict && (byte == 32)) ≡ false
+  pub ends
+      : (byte : ℕ) (bytes : List ℕ)
+      → drop start line ≡ byte ∷ bytes
+      → (not strict && (byte == 32)) ≡ false
 
 -- A piece from its start to its end is the first token behind this place, and the others follow it.
 pub record IsPiece (strict : Bool) (line : List ℕ) (from : ℕ) (kind : Kind) (start end : ℕ) : Type 0 where
@@ -64,7 +69,11 @@ pub record IsPiece (strict : Bool) (line : List ℕ) (from : ℕ) (kind : Kind) 
   pub within : end ≤ length line
   pub begins : start < end
   pub named : IsNamed kind (take (end - start) (drop start line))
-  pub tokens : tokens_from strict from line ≡ record { token = token_from kind (take (end - start) (drop start line)) (start + 1); place = start + 1 } ∷ tokens_from strict end line
+  pub tokens : tokens_from strict from line
+      ≡ record {
+        token = token_from kind (take (end - start) (drop start line)) (start + 1);
+        place = start + 1;
+      } ∷ tokens_from strict end line
 
 -- ---- The first pass ----
 
@@ -84,7 +93,8 @@ star_count [] = 0
 star_count (token ∷ tokens) = one_star token + star_count tokens
 
 -- What was read of a line from one place to another: the tokens, and the state that they lead to.
-pub record IsRead (strict : Bool) (line : List ℕ) (from at : ℕ) (held left : Option ℕ) (outer : List (Option ℕ)) (products : ℕ) : Type 0 where
+pub record IsRead (strict : Bool) (line : List ℕ) (from at : ℕ) (held left : Option ℕ)
+    (outer : List (Option ℕ)) (products : ℕ) : Type 0 where
   pub before : List Placed
   pub state : State
   pub within : at ≤ length line

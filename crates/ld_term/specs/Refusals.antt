@@ -36,5 +36,6 @@ pub record IsTooLarge (t : Written) (products : ℕ) : Type 0 where
 abbrev pub IsRefused : (List Token → Written → Type 0) → List Placed → ℕ → TermErr → Type 0
 IsRefused Says placed end (Form place) = IsFault (λ tokens. (t : Written) × Says tokens t) placed end place
 IsRefused Says placed end (TooDeep height) = (t : Written) × Says (tokens_of placed) t × IsTooDeep t height
-IsRefused Says placed end (TooMany products) = (t : Written) × Says (tokens_of placed) t × IsTooLarge t products
+IsRefused Says placed end (TooMany products) =
+    (t : Written) × Says (tokens_of placed) t × IsTooLarge t products
 IsRefused Says placed end Memory = Unit {0}

@@ -63,10 +63,11 @@ spelled bytes (t ∷ held) = if bytes_eq (strict_text t) bytes then Some t else 
 unfoldable pub strict_term_of : List ℕ → Option Term
 strict_term_of bytes = spelled bytes (held_after [] bytes)
 
--- Why the strict text of a term isn't read: the term is too high, or has too many products. A term has one leaf
--- more than products.
+-- Why the strict text of a term isn't read: the term is too high, or has too many products. A term has one
+-- leaf more than products.
 abbrev pub IsStrictRefusal : Option Term → TermErr → Type 0
 IsStrictRefusal read (Form place) = read ≡ None
 IsStrictRefusal read (TooDeep high) = (t : Term) × (read ≡ Some t) × (high ≡ height t) × (MAX_HEIGHT < high)
-IsStrictRefusal read (TooMany count) = (t : Term) × (read ≡ Some t) × (count + 1 ≡ leaf_count t) × (MAX_PRODUCTS < count)
+IsStrictRefusal read (TooMany count) =
+    (t : Term) × (read ≡ Some t) × (count + 1 ≡ leaf_count t) × (MAX_PRODUCTS < count)
 IsStrictRefusal read Memory = Unit {0}

@@ -57,7 +57,8 @@ lex strict in_run place [] = []
 lex strict in_run place (byte ∷ bytes) =
     if is_name_byte byte then
     (if in_run then lex strict true (place + 1) bytes
-    else record { token = run_token strict (take_while is_name_byte (byte ∷ bytes)) place; place = place } ∷ lex strict true (place + 1) bytes)
+    else record { token = run_token strict (take_while is_name_byte (byte ∷ bytes)) place; place = place } ∷
+    lex strict true (place + 1) bytes)
     else (if not strict && (byte == 32) then lex strict false (place + 1) bytes
     else record { token = byte_token byte; place = place } ∷ lex strict false (place + 1) bytes)
 

@@ -34,6 +34,7 @@ pub record IsBehind (strict : Bool) (line : List ℕ) (at : ℕ) (rest : List To
   pub tokens : tokens_of (tokens_from strict at line) ≡ rest
 
 -- The tree is this term, and the tokens behind the place are these. No public clause cites it.
-pub record IsAtom (strict : Bool) (line : List ℕ) (at : ℕ) (tree : Tree) (t : Written) (rest : List Token) : Type 0 where
+pub record IsAtom (strict : Bool) (line : List ℕ) (at : ℕ) (tree : Tree) (t : Written)
+    (rest : List Token) : Type 0 where
   pub tree_is : written tree ≡ t
   pub ends : IsBehind strict line at rest

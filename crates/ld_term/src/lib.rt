@@ -13,7 +13,7 @@ mod tree;
 mod writer;
 
 pub use definition::{Definition, read_definition};
-pub use laws::{law_one_term, law_strict_text};
+pub use laws::{law_one_definition, law_one_term, law_strict_text};
 pub use term_err::TermErr;
 pub use tree::{Tree, read_strict, read_term};
 pub use writer::put_term;

@@ -45,7 +45,8 @@ impl Reader {
     // The variable or a name is an atom.
     fn leaf(&mut self) -> bool
         ensures variable { (strict : Bool) → Steps strict variable result self.old self.new }
-        ensures name { (strict : Bool) → (bytes : List ℕ) → (place : ℕ) → Steps strict (name bytes place) result self.old self.new }
+        ensures name { (strict : Bool) → (bytes : List ℕ) → (place : ℕ)
+            → Steps strict (name bytes place) result self.old self.new }
     {
         let None = self.held else {
             return false;
@@ -92,7 +93,9 @@ impl Reader {
 
     /// Reads the next token, where it may stand here, and says whether it may.
     pub(crate) fn take(&mut self, kind: Kind, strict: bool) -> Result<bool, AllocError>
-        ensures { IfOk result (λ moved. (bytes : List ℕ) → (place : ℕ) → Steps strict (token_from kind bytes place) moved self.old self.new) }
+        ensures { IfOk result
+            (λ moved. (bytes : List ℕ) → (place : ℕ)
+            → Steps strict (token_from kind bytes place) moved self.old self.new) }
     {
         match kind {
             Kind::Open => self.open(),

@@ -29,8 +29,10 @@ fn stars(kind: Kind) -> u64
 /// No term is built, so that neither the stack nor a term's drop goes as deep as a line of brackets.
 pub(crate) fn measure(alloc: Global, line: &[u8], from: usize, strict: bool) -> Result<(), TermErr>
     requires { from ≤ length line.now }
-    ensures text { OnOk result ((t : Written) × IsTermText strict (tokens_of (tokens_from strict from line.now)) t × IsSmall t) }
-    ensures refused { IfErr result (IsRefused (IsTermText strict) (tokens_from strict from line.now) (length line.now)) }
+    ensures text { OnOk result
+        ((t : Written) × IsTermText strict (tokens_of (tokens_from strict from line.now)) t × IsSmall t) }
+    ensures refused { IfErr result
+        (IsRefused (IsTermText strict) (tokens_from strict from line.now) (length line.now)) }
 {
     let mut reader = Reader::new(alloc);
     let mut products = 0;

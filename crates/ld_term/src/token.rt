@@ -115,7 +115,8 @@ fn run_end(line: &[u8], start: usize) -> usize
 /// The first piece behind this place. `None` where only spaces are left.
 pub(crate) fn next_piece(line: &[u8], from: usize, strict: bool) -> Option<Piece>
     requires { from ≤ length line.now }
-    ensures { MatchOption result (tokens_from strict from line.now ≡ []) (λ p. IsPiece strict line.now from p.kind p.start p.end) }
+    ensures { MatchOption result (tokens_from strict from line.now ≡ [])
+        (λ p. IsPiece strict line.now from p.kind p.start p.end) }
 {
     let start = next_start(line, from, strict);
     if start == line.len() {

@@ -1,4 +1,4 @@
-ghost use Rattle.std.specs.Prelude.{◌≡◌, ◌≤◌, ◌∷◌, ◌++◌, true, false, List, length, Some, IfOk, IfErr};
+ghost use Rattle.std.specs.Prelude.{◌≡◌, ◌≢◌, ◌⊎◌, ◌≤◌, ◌∷◌, ◌++◌, true, false, List, length, Some, IfOk, IfErr, IsErrOf};
 ghost use Rattle.ld_term.specs.Terms.{Term};
 ghost use Rattle.ld_term.specs.Written.{Written, HasNoName};
 ghost use Rattle.ld_term.specs.Tokens.{Token, tokens_of, tokens_from};
@@ -6,6 +6,8 @@ ghost use Rattle.ld_term.specs.Grammar.{atom_tokens, IsTermText};
 ghost use Rattle.ld_term.specs.TreeTexts.{written, StartsAtom, IsBehind, IsAtom};
 ghost use Rattle.ld_term.specs.Refusals.{IsSmall, IsRefused};
 ghost use Rattle.ld_term.specs.StrictTexts.{as_written, strict_term_of, IsStrictRefusal};
+ghost use Rattle.ld_term.specs.declared.term_err.TermErr.{TermErr as Refusal};
+ghost use Rattle.ld_term.specs.declared.term_err.TermErr.TheVariants.{Memory};
 
 use crate::MAX_HEIGHT;
 use crate::shape::measure;
@@ -33,7 +35,8 @@ pub enum Tree {
 // The place behind the next token, which is there.
 fn skip(line: &[u8], from: usize, strict: bool) -> usize
     requires { (token : Token) × (rest : List Token) × IsBehind strict line.now from (token ∷ rest) }
-    ensures { (token : Token) → (rest : List Token) → IsBehind strict line.now from (token ∷ rest) → IsBehind strict line.now result rest }
+    ensures { (token : Token) → (rest : List Token) → IsBehind strict line.now from (token ∷ rest)
+        → IsBehind strict line.now result rest }
 {
     let Some(piece) = next_piece(line, from, strict) else {
         unreachable!();
@@ -50,7 +53,10 @@ fn atom_at(
     depth: u64,
 ) -> Result<(Tree, usize), AllocError>
     requires { StartsAtom strict line.now from depth }
-    ensures { IfOk result (λ r. (t : Written) → (rest : List Token) → tokens_of (tokens_from strict from line.now) ≡ atom_tokens t ++ rest → IsAtom strict line.now r.1 r.0 t rest) }
+    ensures { IfOk result
+        (λ r. (t : Written) → (rest : List Token)
+        → tokens_of (tokens_from strict from line.now) ≡ atom_tokens t ++ rest
+        → IsAtom strict line.now r.1 r.0 t rest) }
 {
     let Some(piece) = next_piece(line, from, strict) else {
         unreachable!();
@@ -80,8 +86,11 @@ fn atom_at(
 // The tree of the term behind a place.
 fn term_at(alloc: Global, line: &[u8], from: usize, strict: bool) -> Result<Tree, AllocError>
     requires within { from ≤ length line.now }
-    requires text { (t : Written) × IsTermText strict (tokens_of (tokens_from strict from line.now)) t × IsSmall t }
-    ensures { IfOk result (λ tree. (t : Written) → IsTermText strict (tokens_of (tokens_from strict from line.now)) t → t ≡ written tree) }
+    requires text { (t : Written) × IsTermText strict (tokens_of (tokens_from strict from line.now)) t
+        × IsSmall t }
+    ensures { IfOk result
+        (λ tree. (t : Written) → IsTermText strict (tokens_of (tokens_from strict from line.now)) t
+        → t ≡ written tree) }
 {
     let (left, at) = atom_at(alloc, line, from, strict, MAX_HEIGHT)?;
     let Some(star) = next_piece(line, at, strict) else {
@@ -101,9 +110,11 @@ pub(crate) fn read_from(
     strict: bool,
 ) -> Result<Tree, TermErr>
     requires { from ≤ length line.now }
-    ensures tree { IfOk result (λ tree. IsTermText strict (tokens_of (tokens_from strict from line.now)) (written tree)) }
+    ensures tree { IfOk result
+        (λ tree. IsTermText strict (tokens_of (tokens_from strict from line.now)) (written tree)) }
     ensures small { IfOk result (λ tree. IsSmall (written tree)) }
-    ensures refused { IfErr result (IsRefused (IsTermText strict) (tokens_from strict from line.now) (length line.now)) }
+    ensures refused { IfErr result
+        (IsRefused (IsTermText strict) (tokens_from strict from line.now) (length line.now)) }
 {
     measure(alloc, line, from, strict)?;
     Ok(term_at(alloc, line, from, strict)?)
@@ -112,25 +123,41 @@ pub(crate) fn read_from(
 /// The term that a line is, in which the outermost brackets may be left out.
 ///
 /// Spaces may stand between the tokens. It reads in two passes: the first finds the form, the height and the
-/// number of products, and builds no term; the second builds the term, only where these are within the bounds.
+/// number of products, and builds no term; the second builds the term, only where these are within the
+/// bounds.
 pub fn read_term(alloc: Global, line: &[u8]) -> Result<Tree, TermErr>
-    ensures tree { IfOk result (λ tree. IsTermText false (tokens_of (tokens_from false 0 line.now)) (written tree)) }
+    ensures tree { IfOk result
+        (λ tree. IsTermText false (tokens_of (tokens_from false 0 line.now)) (written tree)) }
     ensures small { IfOk result (λ tree. IsSmall (written tree)) }
-    ensures refused { IfErr result (IsRefused (IsTermText false) (tokens_from false 0 line.now) (length line.now)) }
+    ensures refused { IfErr result
+        (IsRefused (IsTermText false) (tokens_from false 0 line.now) (length line.now)) }
+
+    // The refusal that is due is given, unless memory runs out.
+    ensures exact { (e : Refusal) → e ≢ Memory
+        → IsRefused (IsTermText false) (tokens_from false 0 line.now) (length line.now) e
+        → IsErrOf result e ⊎ IsErrOf result Memory }
 {
     read_from(alloc, line, 0, false)
 }
 
 /// The term that some bytes are in the strict spelling: brackets round each product, no spaces and no names.
 pub fn read_strict(alloc: Global, bytes: &[u8]) -> Result<Tree, TermErr>
-    ensures tree { IfOk result (λ tree. IsTermText true (tokens_of (tokens_from true 0 bytes.now)) (written tree)) }
+    ensures tree { IfOk result
+        (λ tree. IsTermText true (tokens_of (tokens_from true 0 bytes.now)) (written tree)) }
     ensures nameless { IfOk result (λ tree. HasNoName (written tree)) }
     ensures small { IfOk result (λ tree. IsSmall (written tree)) }
-    ensures refused { IfErr result (IsRefused (IsTermText true) (tokens_from true 0 bytes.now) (length bytes.now)) }
+    ensures refused { IfErr result
+        (IsRefused (IsTermText true) (tokens_from true 0 bytes.now) (length bytes.now)) }
 
     // The same by the term whose strict text the bytes are, if there is one.
-    ensures term { IfOk result (λ tree. (t : Term) × (strict_term_of bytes.now ≡ Some t) × (written tree ≡ as_written t)) }
+    ensures term { IfOk result
+        (λ tree. (t : Term) × (strict_term_of bytes.now ≡ Some t) × (written tree ≡ as_written t)) }
     ensures cause { IfErr result (IsStrictRefusal (strict_term_of bytes.now)) }
+
+    // The refusal that is due is given, unless memory runs out.
+    ensures exact { (e : Refusal) → e ≢ Memory
+        → IsRefused (IsTermText true) (tokens_from true 0 bytes.now) (length bytes.now) e
+        → IsErrOf result e ⊎ IsErrOf result Memory }
 {
     read_from(alloc, bytes, 0, true)
 }

@@ -23,7 +23,8 @@ one_two_one = refl
 turned : arranged 4 (delta_word 4) ≡ half_turn 4
 turned = refl
 
-delta_four : delta_word 4 ≡ generator 1 ∷ generator 2 ∷ generator 3 ∷ generator 1 ∷ generator 2 ∷ generator 1 ∷ []
+delta_four
+    : delta_word 4 ≡ generator 1 ∷ generator 2 ∷ generator 3 ∷ generator 1 ∷ generator 2 ∷ generator 1 ∷ []
 delta_four = refl
 
 -- `2 3 1` turned by half a turn, and its places
@@ -66,4 +67,5 @@ right_descent = (omega arith, λ descent. absurd (omega arith))
 
 -- the word of `2 1` is that of the half turn of 2 strands
 word : IsWordOf 2 (half_turn 2) (delta_word 2)
-word = least 1 (omega arith) (omega arith) (omega arith) (λ j low below descent. absurd (omega arith)) (nothing refl)
+word = least 1 (omega arith) (omega arith) (omega arith) (λ j low below descent. absurd (omega arith))
+    (nothing refl)

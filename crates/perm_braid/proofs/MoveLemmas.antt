@@ -20,7 +20,8 @@ IsOrder-moves_first order (move i is rest) = IsOrder-moves_first (IsOrder-swappe
 -- and the second
 pub IsOrder-moves_second : {n : ℕ} {p q r s : List ℕ} → IsOrder n q → Moves n p q r s → IsOrder n s
 IsOrder-moves_second order done = order
-IsOrder-moves_second order (move i is rest) = IsOrder-moves_second (IsOrder-values_swapped order i is.low is.high) rest
+IsOrder-moves_second order (move i is rest) =
+    IsOrder-moves_second (IsOrder-values_swapped order i is.low is.high) rest
 
 -- where there is a move, the pair isn't greedy
 pub greedy_not : {n : ℕ} {p q : List ℕ} (i : ℕ) → IsMove n p q i → IsGreedy n p q → ⊥
@@ -34,7 +35,8 @@ pub KeepsProduct-moves
     → Moves n p q r s
     → KeepsProduct n p q r s
 KeepsProduct-moves {n} one two done u v x y u_is v_is x_is y_is =
-    rw (word_unique x_is u_is, word_unique y_is v_is) (stay (on_append n u v (IsOn-word u_is) (IsOn-word v_is)))
+    rw (word_unique x_is u_is, word_unique y_is v_is)
+    (stay (on_append n u v (IsOn-word u_is) (IsOn-word v_is)))
 KeepsProduct-moves {n} {p} {q} one two (move i is rest) u v x y u_is v_is x_is y_is =
     let next_one = IsOrder-swapped one i is.low is.high in
     let next_two = IsOrder-values_swapped two i is.low is.high in

@@ -77,7 +77,8 @@ entry-place_of (x ∷ a) e within = elim (cases_eq x e) [
   | inl same ↦ rw (same, place_of-here e a) refl
   | inr other ↦
       let there = place_of-there x e a other in
-      rw there (entry_next x a (place_of a e) (place_low a e) ∙ entry-place_of a e (omega (arith, there, within)))
+      rw there (entry_next x a (place_of a e) (place_low a e)
+      ∙ entry-place_of a e (omega (arith, there, within)))
 ]
   where
     entry_next : (x : ℕ) (a : List ℕ) (k : ℕ) → 1 ≤ k → entry (x ∷ a) (suc k) ≡ entry a k
@@ -270,5 +271,6 @@ identity-from_places {n} {a} order placed =
     let fits : i ≤ n = omega (arith, order.size, high) in
     let (least, most) = order.within i low fits in
     let at = entry-places_of a (entry a i) least (omega (arith, order.size, most)) in
-    let value : entry (places_of a) (entry a i) ≡ entry a i = rw placed (entry-identity n (entry a i) least most) in
+    let value : entry (places_of a) (entry a i) ≡ entry a i =
+    rw placed (entry-identity n (entry a i) least most) in
     sym value ∙ (at ∙ (order.distinct i low fits ∙ sym (entry-identity n i low fits))))

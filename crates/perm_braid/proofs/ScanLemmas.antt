@@ -147,6 +147,8 @@ turn_all a r b k is same done turned =
     let long : length r ≡ length a = rw is (length-reverse a) in
     same_entries b (flip a) (same ∙ (long ∙ sym (length-flip a)))
     (λ i low high.
-    let at = entry-map (λ e. length a + 1 - e) (reverse a) i low (omega (arith, long, same, high, length-reverse a)) in
-    let here : entry b i ≡ length a + 1 - entry (reverse a) i = rw (← is, ← long) (turned i low (omega arith)) in
+    let at = entry-map (λ e. length a + 1 - e) (reverse a) i low
+    (omega (arith, long, same, high, length-reverse a)) in
+    let here : entry b i ≡ length a + 1 - entry (reverse a) i =
+    rw (← is, ← long) (turned i low (omega arith)) in
     here ∙ sym at)

@@ -1,18 +1,18 @@
 -- Words of arrangements.
 --
--- Each order has exactly one word (`word_exists`, `word_unique`), and it has that order as its arrangement
--- (`arranged-word`). The word of an order sorts its places, so all that is known of words that sort is
--- known of it: a letter at a left descent can stand in front (`IsWordOf-front`), and one at a place
--- that is no right descent can be added at the end (`IsWordOf-end`).
+-- Each order has exactly one word (`word_exists`, `word_unique`). The word of an order sorts its places, so
+-- all that is known of words that sort is known of it: a letter at a left descent can stand in front
+-- (`IsWordOf-front`), and one at a place that is no right descent can be added at the end (`IsWordOf-end`).
 use Rattle.std.proofs.Common.{ℕ, zero, suc, ◌≡◌, inl, inr, ◌+◌, ◌<◌, ◌≤◌, ◌∙◌, List, [], ◌∷◌, ◌++◌, map, refl, sym, ap, arith}
 use Rattle.std.proofs.lemmas.Bool.{cases_eq, cases_lt}
 use Rattle.braid_word.specs.Words.{Letter, IsOn}
 use Rattle.braid_word.specs.Equivalence.{EquivalentOn}
 use Rattle.perm_braid.specs.Arrangements.{entry, place_of, places_of, swapped, neighbour, values_swapped, identity, IsOrder, IsRightDescent, IsLeftDescent}
-use Rattle.perm_braid.specs.SimpleWords.{generator, arranged, arranged_from, IsRisingFrom, IsSimple, IsWordOf, nothing, least}
+use Rattle.perm_braid.specs.SimpleWords.{generator, IsWordOf, nothing, least}
 use Rattle.perm_braid.proofs.PlaceLemmas.{same_entries, place_of-from, Undoes-places_of, IsOrder-identity, IsOrder-entry, length-identity, entry-identity, entry-places_of, IsOrder-places_of, identity-from_places, places_of-identity}
-use Rattle.perm_braid.proofs.SwapLemmas.{neighbour_case, neighbour_within, neighbour-neighbour, length-swapped, length-values_swapped, entry-swapped, entry-values_swapped, place_of-swapped, place_of-values_swapped, IsOrder-swapped, IsOrder-values_swapped, places_of-swapped, places_of-values_swapped}
-use Rattle.perm_braid.proofs.SortingLemmas.{inversions, lowers, IsFirstDescent, first_descent, identity-from_stuck, IsStuck-identity, swapped-swapped, IsSorting, sorted, step, IsSorting-equivalent, entries_rise}
+use Rattle.perm_braid.proofs.SwapLemmas.{neighbour_case, neighbour_within, length-swapped, length-values_swapped, entry-swapped, entry-values_swapped, place_of-swapped, IsOrder-swapped, IsOrder-values_swapped, places_of-swapped, places_of-values_swapped}
+use Rattle.perm_braid.proofs.SortingLemmas.{inversions, IsFirstDescent, first_descent, identity-from_stuck, IsStuck-identity, swapped-swapped, entries_rise}
+use Rattle.perm_braid.proofs.SortingWordLemmas.{lowers, IsSorting, sorted, step, IsSorting-equivalent}
 
 -- ---- Left descents are descents of the places ----
 
@@ -47,7 +47,8 @@ descent_from_places {n} {a} order i low high down =
 -- the identity has no left descent
 pub identity_rises : (n i : ℕ) → 1 ≤ i → i < n → IsLeftDescent (identity n) i → ⊥
 identity_rises n i low high down =
-    IsStuck-identity n i low high (rw (places_of-identity n) at (descent_of_places (IsOrder-identity n) i low high down))
+    IsStuck-identity n i low high
+    (rw (places_of-identity n) at (descent_of_places (IsOrder-identity n) i low high down))
 
 -- an order with no left descent is the identity
 pub identity-from_rising
@@ -62,11 +63,16 @@ identity-from_rising order rising =
 -- ---- The word of an order ----
 
 -- the word of an order sorts its places
-pub IsSorting-word : {n : ℕ} {a : List ℕ} {w : List Letter} → IsOrder n a → IsWordOf n a w → IsSorting n (places_of a) w
+pub IsSorting-word
+    : {n : ℕ} {a : List ℕ} {w : List Letter}
+    → IsOrder n a
+    → IsWordOf n a w
+    → IsSorting n (places_of a) w
 IsSorting-word {n} order (nothing is) = sorted (rw is (places_of-identity n))
 IsSorting-word {n} order (least i low high down first rest) =
     step i low high (descent_of_places order i low high down)
-    (rw (places_of-values_swapped order i low high) at (IsSorting-word (IsOrder-values_swapped order i low high) rest))
+    (rw (places_of-values_swapped order i low high) at (IsSorting-word
+    (IsOrder-values_swapped order i low high) rest))
 
 -- the word of an order is on as many strands
 pub IsOn-word : {n : ℕ} {a : List ℕ} {w : List Letter} → IsWordOf n a w → IsOn n w
@@ -83,7 +89,8 @@ word_step
     → IsWordOf n a (generator i ∷ w)
 word_step order i found rest =
     least i found.low found.high (descent_from_places order i found.low found.high found.down)
-    (λ j low less down. found.first j low less (descent_of_places order j low (omega (arith, less, found.high)) down))
+    (λ j low less down. found.first j low less
+    (descent_of_places order j low (omega (arith, less, found.high)) down))
     rest
 
 -- what is left has fewer pairs of places out of order
@@ -108,7 +115,8 @@ word_within n zero a few order = elim (first_descent n (places_of a)) [
   | inl some ↦
       let (i, found) = some in
       let less = word_lowers order i found.low found.high found.down in absurd (omega (arith, less, few))
-  | inr stuck ↦ ([], nothing (identity-from_places order (identity-from_stuck (IsOrder-places_of order) stuck)))
+  | inr stuck ↦
+      ([], nothing (identity-from_places order (identity-from_stuck (IsOrder-places_of order) stuck)))
 ]
 word_within n (suc k) a few order = elim (first_descent n (places_of a)) [
   | inl some ↦
@@ -117,7 +125,8 @@ word_within n (suc k) a few order = elim (first_descent n (places_of a)) [
       let (w, rest) = word_within n k (values_swapped i a) (omega (arith, less, few))
       (IsOrder-values_swapped order i found.low found.high) in
       (generator i ∷ w, word_step order i found rest)
-  | inr stuck ↦ ([], nothing (identity-from_places order (identity-from_stuck (IsOrder-places_of order) stuck)))
+  | inr stuck ↦
+      ([], nothing (identity-from_places order (identity-from_stuck (IsOrder-places_of order) stuck)))
 ]
 
 -- each order has a word
@@ -127,9 +136,12 @@ word_exists {n} {a} order = word_within n (inversions (places_of a)) a (omega ar
 -- and only one
 pub word_unique : {n : ℕ} {a : List ℕ} {u v : List Letter} → IsWordOf n a u → IsWordOf n a v → u ≡ v
 word_unique (nothing is) (nothing same) = refl
-word_unique {n} (nothing is) (least j low high down first rest) = absurd (identity_rises n j low high (rw is at down))
-word_unique {n} (least i low high down first rest) (nothing is) = absurd (identity_rises n i low high (rw is at down))
-word_unique {n} {a} (least {w = u} i low high down first rest) (least {w = v} j low_j high_j down_j first_j rest_j) =
+word_unique {n} (nothing is) (least j low high down first rest) =
+    absurd (identity_rises n j low high (rw is at down))
+word_unique {n} (least i low high down first rest) (nothing is) =
+    absurd (identity_rises n i low high (rw is at down))
+word_unique {n} {a} (least {w = u} i low high down first rest)
+    (least {w = v} j low_j high_j down_j first_j rest_j) =
     elim (cases_lt i j) [
       | inl less ↦ absurd (first_j i low less down)
       | inr above ↦ elim (cases_lt j i) [
@@ -157,7 +169,8 @@ pub IsWordOf-front
 IsWordOf-front order i low high down one two =
     let rest = IsSorting-word (IsOrder-values_swapped order i low high) two in
     IsSorting-equivalent (IsOrder-places_of order) (IsSorting-word order one)
-    (step i low high (descent_of_places order i low high down) (rw (places_of-values_swapped order i low high) at rest))
+    (step i low high (descent_of_places order i low high down)
+    (rw (places_of-values_swapped order i low high) at rest))
 
 -- ---- Letters at the end ----
 
@@ -170,7 +183,11 @@ swapped-map f (suc zero) (x ∷ y ∷ b) = refl
 swapped-map f (suc (suc i)) (x ∷ b) = ap (λ c. f x ∷ c) (swapped-map f (suc i) b)
 
 -- on the identity, values are exchanged as places are
-pub values_swapped-identity : (n i : ℕ) → 1 ≤ i → i < n → values_swapped i (identity n) ≡ swapped i (identity n)
+pub values_swapped-identity
+    : (n i : ℕ)
+    → 1 ≤ i
+    → i < n
+    → values_swapped i (identity n) ≡ swapped i (identity n)
 values_swapped-identity n i low high =
     let long = length-identity n in
     same_entries (values_swapped i (identity n)) (swapped i (identity n))
@@ -180,7 +197,8 @@ values_swapped-identity n i low high =
     let (l, m) = neighbour_within n i k low high least fits in
     entry-values_swapped i k (identity n) least (omega (arith, long, fits))
     ∙ (ap (neighbour i) (entry-identity n k least fits)
-    ∙ sym (entry-swapped i k (identity n) low (omega (arith, long, high)) ∙ entry-identity n (neighbour i k) l m)))
+    ∙ sym (entry-swapped i k (identity n) low (omega (arith, long, high))
+    ∙ entry-identity n (neighbour i k) l m)))
 
 -- a descent stays one where the values i and i + 1 are exchanged, if i stands before i + 1
 descent-values_swapped
@@ -294,122 +312,10 @@ pub IsWordOf-end
 IsWordOf-end {n} {a} order i low high rises one two =
     let placed = IsOrder-places_of order in
     let at_i = place_of-from n (places_of a) (entry a) (Undoes-places_of order) i low (omega arith) in
-    let at_j = place_of-from n (places_of a) (entry a) (Undoes-places_of order) (i + 1) (omega arith) (omega arith) in
+    let at_j = place_of-from n (places_of a) (entry a) (Undoes-places_of order) (i + 1) (omega arith)
+    (omega arith) in
     let before : place_of (places_of a) i < place_of (places_of a) (i + 1) =
     rw (at_i, at_j) (entries_rise order i low high rises) in
     let longer = IsSorting-end placed i low high before (IsSorting-word order one) in
     IsSorting-equivalent (IsOrder-places_of (IsOrder-swapped order i low high))
     (IsSorting-word (IsOrder-swapped order i low high) two) (rw (places_of-swapped order i low high) longer)
-
--- ---- The arrangement of the word ----
-
--- a function on each entry goes with the letters of a word
-arranged_from-map : (f : ℕ → ℕ) (b : List ℕ) (w : List Letter) → arranged_from (map f b) w ≡ map f (arranged_from b w)
-arranged_from-map f b [] = refl
-arranged_from-map f b (x ∷ w) = rw (swapped-map f x.index b) (arranged_from-map f (swapped x.index b) w)
-
--- exchanging two values twice is nothing
-pub values_swapped-values_swapped : (i : ℕ) (a : List ℕ) → values_swapped i (values_swapped i a) ≡ a
-values_swapped-values_swapped i [] = refl
-values_swapped-values_swapped i (x ∷ a) =
-    rw (neighbour-neighbour i x) (ap (λ c. x ∷ c) (values_swapped-values_swapped i a))
-
--- the word of an order has that order as its arrangement
-pub arranged-word : {n : ℕ} {a : List ℕ} {w : List Letter} → IsWordOf n a w → arranged n w ≡ a
-arranged-word (nothing is) = sym is
-arranged-word {n} {a} (least {w = w} i low high down first rest) =
-    rw (← values_swapped-identity n i low high, arranged_from-map (neighbour i) (identity n) w, arranged-word rest)
-    (values_swapped-values_swapped i a)
-
--- ---- The word is simple ----
-
--- where i stands before i + 1 after an exchange of rising entries, these aren't i and i + 1
-crosses_not
-    : {n : ℕ} {b : List ℕ}
-    → IsOrder n b
-    → (i j : ℕ)
-    → 1 ≤ i
-    → i < n
-    → 1 ≤ j
-    → j < n
-    → entry b j < entry b (j + 1)
-    → place_of (swapped j b) i < place_of (swapped j b) (i + 1)
-    → (place_of b i < place_of b (i + 1)) × (entry (values_swapped i b) j < entry (values_swapped i b) (j + 1))
-crosses_not {n} {b} order i j low_i high_i low high up after =
-    let one = place_of-swapped order j i low high low_i (omega arith) in
-    let two = place_of-swapped order j (i + 1) low high (omega arith) (omega arith) in
-    let place_one = neighbour_case j (place_of b i) in
-    let place_two = neighbour_case j (place_of b (i + 1)) in
-    let at_one = IsOrder-entry order i low_i (omega arith) in
-    let at_two = IsOrder-entry order (i + 1) (omega arith) (omega arith) in
-    let back_one = order.distinct j low (omega arith) in
-    let back_two = order.distinct (j + 1) (omega arith) (omega arith) in
-    let turned : (place_of b i ≡ j + 1) → (place_of b (i + 1) ≡ j) → ⊥ = λ p q.
-    let first : entry b (j + 1) ≡ i = rw p at at_one in
-    let second : entry b j ≡ i + 1 = rw q at at_two in
-    absurd (omega arith) in
-    let straight : (entry b j ≡ i) → (entry b (j + 1) ≡ i + 1) → ⊥ = λ p q.
-    let first : place_of b i ≡ j = rw p at back_one in
-    let second : place_of b (i + 1) ≡ j + 1 = rw q at back_two in
-    absurd (omega (arith, one, two, place_one, place_two, after)) in
-    let here = entry-values_swapped i j b low (omega (arith, order.size, high)) in
-    let next = entry-values_swapped i (j + 1) b (omega arith) (omega (arith, order.size, high)) in
-    let value_one = neighbour_case i (entry b j) in
-    let value_two = neighbour_case i (entry b (j + 1)) in
-    let before : place_of b i < place_of b (i + 1) = elim (cases_eq (place_of b i) (j + 1)) [
-      | inl p ↦ elim (cases_eq (place_of b (i + 1)) j) [
-        | inl q ↦ absurd (turned p q)
-        | inr other ↦ omega (arith, one, two, place_one, place_two, after)
-      ]
-      | inr other ↦ omega (arith, one, two, place_one, place_two, after)
-    ] in
-    let rises : entry (values_swapped i b) j < entry (values_swapped i b) (j + 1) = elim (cases_eq (entry b j) i) [
-      | inl p ↦ elim (cases_eq (entry b (j + 1)) (i + 1)) [
-        | inl q ↦ absurd (straight p q)
-        | inr other ↦ omega (arith, here, next, value_one, value_two, up)
-      ]
-      | inr other ↦ omega (arith, here, next, value_one, value_two, up)
-    ] in
-    (before, rises)
-
--- where i ends before i + 1, the strands i and i + 1 don't cross, and can be exchanged
-rising-values_swapped
-    : {n : ℕ} {b : List ℕ} (w : List Letter)
-    → IsOrder n b
-    → (i : ℕ)
-    → 1 ≤ i
-    → i < n
-    → IsOn n w
-    → IsRisingFrom b w
-    → place_of (arranged_from b w) i < place_of (arranged_from b w) (i + 1)
-    → (place_of b i < place_of b (i + 1)) × IsRisingFrom (values_swapped i b) w
-rising-values_swapped [] order i low high on rising before = (before, tt)
-rising-values_swapped {n} {b} (x ∷ w) order i low high on rising before =
-    let j = x.index in
-    let rest = rising-values_swapped w (IsOrder-swapped order j on.0.0 on.0.1) i low high on.1 rising.2 before in
-    let held = crosses_not order i j low high on.0.0 on.0.1 rising.1 rest.0 in
-    (held.0, (rising.0, held.1, rw (swapped-map (neighbour i) j b) rest.1))
-
--- the letters of the word find rising entries
-rising-word : {n : ℕ} {a : List ℕ} {w : List Letter} → IsOrder n a → IsWordOf n a w → IsRisingFrom (identity n) w
-rising-word order (nothing is) = tt
-rising-word {n} {a} order (least {w = w} i low high down first rest) =
-    let turned = IsOrder-values_swapped order i low high in
-    let here = place_of-values_swapped order i i low high low (omega arith) in
-    let next = place_of-values_swapped order i (i + 1) low high (omega arith) (omega arith) in
-    let up : neighbour i i ≡ i + 1 = omega (arith, neighbour_case i i) in
-    let back : neighbour i (i + 1) ≡ i = omega (arith, neighbour_case i (i + 1)) in
-    let before : place_of (values_swapped i a) i < place_of (values_swapped i a) (i + 1) =
-    rw (here, next, up, back) down in
-    let ends : place_of (arranged_from (identity n) w) i < place_of (arranged_from (identity n) w) (i + 1) =
-    rw (arranged-word rest) before in
-    let held = rising-values_swapped w (IsOrder-identity n) i low high (IsOn-word rest)
-    (rising-word turned rest) ends in (
-      refl,
-      rw (entry-identity n i low (omega arith), entry-identity n (i + 1) (omega arith) (omega arith)) (omega arith),
-      rw (← values_swapped-identity n i low high) held.1,
-    )
-
--- the word of an order is simple
-pub IsSimple-word : {n : ℕ} {a : List ℕ} {w : List Letter} → IsOrder n a → IsWordOf n a w → IsSimple n w
-IsSimple-word order is = (IsOn-word is, rising-word order is)

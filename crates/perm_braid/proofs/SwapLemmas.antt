@@ -99,7 +99,12 @@ length-swapped (suc zero) (x ∷ y ∷ a) = refl
 length-swapped (suc (suc i)) (x ∷ a) = ap suc (length-swapped (suc i) a)
 
 -- the entry at the first of the two places
-pub entry-swapped_here : (i j : ℕ) (a : List ℕ) → 1 ≤ i → j ≡ i + 1 → j ≤ length a → entry (swapped i a) i ≡ entry a j
+pub entry-swapped_here
+    : (i j : ℕ) (a : List ℕ)
+    → 1 ≤ i
+    → j ≡ i + 1
+    → j ≤ length a
+    → entry (swapped i a) i ≡ entry a j
 entry-swapped_here zero j a low next high = absurd (omega arith)
 entry-swapped_here (suc i) j [] low next high = absurd (omega arith)
 entry-swapped_here (suc zero) j (x ∷ []) low next high = absurd (omega arith)
@@ -110,7 +115,12 @@ entry-swapped_here (suc (suc i)) (suc (suc j)) (x ∷ a) low next high =
     entry-swapped_here (suc i) (suc j) a (omega arith) (omega arith) (omega arith)
 
 -- the entry at the second of the two places
-pub entry-swapped_next : (i j : ℕ) (a : List ℕ) → 1 ≤ i → j ≡ i + 1 → j ≤ length a → entry (swapped i a) j ≡ entry a i
+pub entry-swapped_next
+    : (i j : ℕ) (a : List ℕ)
+    → 1 ≤ i
+    → j ≡ i + 1
+    → j ≤ length a
+    → entry (swapped i a) j ≡ entry a i
 entry-swapped_next zero j a low next high = absurd (omega arith)
 entry-swapped_next (suc i) j [] low next high = absurd (omega arith)
 entry-swapped_next (suc zero) j (x ∷ []) low next high = absurd (omega arith)
@@ -121,7 +131,11 @@ entry-swapped_next (suc (suc i)) (suc (suc j)) (x ∷ a) low next high =
     entry-swapped_next (suc i) (suc j) a (omega arith) (omega arith) (omega arith)
 
 -- the other entries
-pub entry-swapped_other : (i j k : ℕ) (a : List ℕ) → j ≡ i + 1 → (k < i) ⊎ (j < k) → entry (swapped i a) k ≡ entry a k
+pub entry-swapped_other
+    : (i j k : ℕ) (a : List ℕ)
+    → j ≡ i + 1
+    → (k < i) ⊎ (j < k)
+    → entry (swapped i a) k ≡ entry a k
 entry-swapped_other zero j k a next other = refl
 entry-swapped_other (suc i) j k [] next other = refl
 entry-swapped_other (suc zero) j k (x ∷ []) next other = refl
@@ -137,7 +151,11 @@ entry-swapped_other (suc (suc i)) (suc j) (suc (suc k)) (x ∷ a) next other =
     (elim other [ inl below ↦ inl (omega arith) | inr above ↦ inr (omega arith) ])
 
 -- the entries after an exchange
-pub entry-swapped : (i k : ℕ) (a : List ℕ) → 1 ≤ i → i < length a → entry (swapped i a) k ≡ entry a (neighbour i k)
+pub entry-swapped
+    : (i k : ℕ) (a : List ℕ)
+    → 1 ≤ i
+    → i < length a
+    → entry (swapped i a) k ≡ entry a (neighbour i k)
 entry-swapped i k a low high =
     let one = neighbour_is i k in
     elim (cases_lt k i) [
@@ -195,7 +213,8 @@ pub place_of-swapped
     → e ≤ n
     → place_of (swapped i a) e ≡ neighbour i (place_of a e)
 place_of-swapped {n} {a} order i e low high least most =
-    place_of-from n (swapped i a) (λ e. neighbour i (place_of a e)) (Undoes-swapped order i low high) e least most
+    place_of-from n (swapped i a) (λ e. neighbour i (place_of a e)) (Undoes-swapped order i low high) e least
+    most
 
 -- ---- Exchanges of values ----
 
@@ -247,7 +266,8 @@ pub IsOrder-values_swapped
     → i < n
     → IsOrder n (values_swapped i a)
 IsOrder-values_swapped {n} {a} order i low high =
-    IsOrder-from n (values_swapped i a) (λ e. place_of a (neighbour i e)) (Undoes-values_swapped order i low high)
+    IsOrder-from n (values_swapped i a) (λ e. place_of a (neighbour i e))
+    (Undoes-values_swapped order i low high)
 
 -- the places after an exchange of values
 pub place_of-values_swapped
@@ -334,7 +354,8 @@ Undoes-flip {n} {a} order = record {
   forth = λ e low high.
       let least = place_low a (n + 1 - e) in
       let most = order.has (n + 1 - e) (omega arith) (omega arith) in
-      let once : n + 1 - (n + 1 - place_of a (n + 1 - e)) ≡ place_of a (n + 1 - e) = omega (arith, least, most) in (
+      let once : n + 1 - (n + 1 - place_of a (n + 1 - e)) ≡ place_of a (n + 1 - e) =
+      omega (arith, least, most) in (
         omega (arith, least, most),
         omega (arith, least, most),
         at (n + 1 - place_of a (n + 1 - e)) (omega (arith, least, most)) (omega (arith, least, most))

@@ -10,7 +10,8 @@
 --   IsStill a z m              that is so of no neighbours at the places below m
 --   Passes a z c y             such neighbours are exchanged in both lists, from a, z to c, y
 --
--- The laws stand in `proofs/MoveLemmas.antt` and `proofs/PassingLemmas.antt`. No public clause cites the last three.
+-- The laws stand in `proofs/MoveLemmas.antt` and `proofs/PassingLemmas.antt`. No public clause cites the last
+-- three.
 use Rattle.std.specs.Prelude.{ℕ, ◌+◌, ◌<◌, ◌≤◌, List, ◌++◌, length}
 use Rattle.braid_word.specs.Words.{Letter}
 use Rattle.braid_word.specs.Equivalence.{EquivalentOn}
@@ -43,11 +44,12 @@ KeepsProduct n p q r s =
 
 -- ---- A pair by its entries and places ----
 
--- A move at i exchanges neighbouring entries of the first, and neighbours in the list of places of the second:
+-- A move at i exchanges neighbouring entries of the first, and neighbours in the list of places of the
+-- second:
 -- so a pair is made greedy in these two lists alone.
 
--- The entries of the first don't fall from the place i to the place j, and the places of the second do: where j
--- is i + 1, that is a move.
+-- The entries of the first don't fall from the place i to the place j, and the places of the second do: where
+-- j is i + 1, that is a move.
 abbrev pub CanPass : List ℕ → List ℕ → ℕ → ℕ → Type 0
 CanPass a z i j = (entry z j < entry z i) × (entry a i ≤ entry a j)
 

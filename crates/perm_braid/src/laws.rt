@@ -10,9 +10,12 @@ use crate::perm::Perm;
 /// The law is the contract. After Epstein and others, Word Processing in Groups, chapter 9.
 pub fn law_word(braid: &Perm)
     ensures exists { (w : List Letter) × IsWordOf (length braid.now) braid.now w }
-    ensures unique { (u v : List Letter) → IsWordOf (length braid.now) braid.now u → IsWordOf (length braid.now) braid.now v → u ≡ v }
-    ensures simple { (w : List Letter) → IsWordOf (length braid.now) braid.now w → IsSimple (length braid.now) w }
-    ensures arranged { (w : List Letter) → IsWordOf (length braid.now) braid.now w → arranged (length braid.now) w ≡ braid.now }
+    ensures unique { (u v : List Letter) → IsWordOf (length braid.now) braid.now u
+        → IsWordOf (length braid.now) braid.now v → u ≡ v }
+    ensures simple { (w : List Letter) → IsWordOf (length braid.now) braid.now w
+        → IsSimple (length braid.now) w }
+    ensures arranged { (w : List Letter) → IsWordOf (length braid.now) braid.now w
+        → arranged (length braid.now) w ≡ braid.now }
 {
     let _strands = braid.strands();
 }

@@ -6,8 +6,8 @@ ghost use Rattle.perm_braid.specs.GreedyPairs.{CanPass, IsStill, Passes};
 use crate::entries::can_pass;
 use smallvec::SmallVec;
 
-// Lets what stands behind the place `from` sink to the front, as long as it can pass what stands before it, and
-// answers whether it passed anything.
+// Lets what stands behind the place `from` sink to the front, as long as it can pass what stands before it,
+// and answers whether it passed anything.
 fn sink(entries: &mut [u8], places: &mut [u8], from: u32) -> bool
     requires low { 1 ≤ from }
     requires high { from < length entries.old }
@@ -55,7 +55,8 @@ pub(crate) fn settle(entries: &mut SmallVec<u8, 16>, places: &mut SmallVec<u8, 1
     ensures passes { Passes entries.old.items places.old.items entries.new.items places.new.items }
     ensures still { IsStill entries.new.items places.new.items (length entries.old.items) }
     ensures some { IsTrue result → IsStill entries.old.items places.old.items (length entries.old.items) → ⊥ }
-    ensures none { result ≡ false → (entries.new.items ≡ entries.old.items) × (places.new.items ≡ places.old.items) }
+    ensures none { result ≡ false
+        → (entries.new.items ≡ entries.old.items) × (places.new.items ≡ places.old.items) }
 {
     settle_slices(entries.as_mut_slice(), places.as_mut_slice())
 }

@@ -18,5 +18,6 @@ second_row = refl
 -- that of `1 -2` and `1 1` is `1 -2 2 2 1 3 -2`
 both_row
     : bracket (letter 1 false ∷ letter 2 true ∷ []) (letter 1 false ∷ letter 1 false ∷ [])
-    ≡ letter 1 false ∷ letter 2 true ∷ letter 2 false ∷ letter 2 false ∷ letter 1 false ∷ letter 3 false ∷ letter 2 true ∷ []
+    ≡ letter 1 false ∷ letter 2 true ∷ letter 2 false ∷ letter 2 false ∷ letter 1 false ∷ letter 3 false ∷
+    letter 2 true ∷ []
 both_row = refl

@@ -49,7 +49,14 @@ pub length-bracket
     : (a b : List Letter)
     → length (bracket a b) ≡ length a + (length b + (length a + 1))
 length-bracket a b =
-    omega (arith, length-append a (shift b ++ (letter 1 false ∷ inverse (shift a))), length-append (shift b) (letter 1 false ∷ inverse (shift a)), length-shift a, length-shift b, length-inverse (shift a))
+    omega (
+      arith,
+      length-append a (shift b ++ (letter 1 false ∷ inverse (shift a))),
+      length-append (shift b) (letter 1 false ∷ inverse (shift a)),
+      length-shift a,
+      length-shift b,
+      length-inverse (shift a),
+    )
 
 -- the bracket of two words is a word
 pub word_bracket : (a b : List Letter) → IsWord a → IsWord b → IsWord (bracket a b)
@@ -79,8 +86,11 @@ pub Equivalent-bracket
     → Equivalent a b
     → Equivalent (bracket u a) (bracket v b)
 Equivalent-bracket one two =
-    let (n, first, second) = Equivalent-together one two in
-    (n + 1 + 1, EquivalentOn-bracket (omega arith) (EquivalentOn-more (n + 1) (omega arith) first) (EquivalentOn-more (n + 1) (omega arith) second))
+    let (n, first, second) = Equivalent-together one two in (
+      n + 1 + 1,
+      EquivalentOn-bracket (omega arith) (EquivalentOn-more (n + 1) (omega arith) first)
+          (EquivalentOn-more (n + 1) (omega arith) second),
+    )
 
 -- ---- The law ----
 
@@ -104,14 +114,21 @@ far_inverse u word =
 bracket-inner
     : (a b c : List Letter)
     → bracket a (bracket b c)
-    ≡ a ++ (shift b ++ (shift (shift c) ++ (letter 2 false ∷ (inverse (shift (shift b)) ++ (letter 1 false ∷ inverse (shift a))))))
+    ≡ a ++ (shift b ++ (shift (shift c)
+    ++ (letter 2 false ∷ (inverse (shift (shift b)) ++ (letter 1 false ∷ inverse (shift a))))))
 bracket-inner a b c = simp (shift-append, shift-inverse, append_assoc)
 
 -- the bracket of the brackets of a with b and with c, written out
 bracket-outer
     : (a b c : List Letter)
     → bracket (bracket a b) (bracket a c)
-    ≡ a ++ (shift b ++ (letter 1 false ∷ (inverse (shift a) ++ (shift a ++ (shift (shift c) ++ (letter 2 false ∷ (inverse (shift (shift a)) ++ (letter 1 false ∷ (shift (shift a) ++ (letter 2 true ∷ (inverse (shift (shift b)) ++ inverse (shift a))))))))))))
+    ≡ a ++ (shift b ++ (letter 1 false ∷
+    (inverse (shift a)
+    ++ (shift a ++ (shift (shift c)
+    ++ (letter 2 false ∷
+    (inverse (shift (shift a))
+    ++ (letter 1 false ∷
+    (shift (shift a) ++ (letter 2 true ∷ (inverse (shift (shift b)) ++ inverse (shift a))))))))))))
 bracket-outer a b c = simp (shift-append, shift-inverse, inverse-append, inverse-inverse, append_assoc)
 
 -- the bracket of two brackets is alike to the bracket with a bracket
@@ -126,7 +143,9 @@ alike-distributive n a b c on_a on_b on_c =
     (grw (
       drop_left (n + 3) (shift a) (on_more (n + 1) (n + 3) (omega arith) (shift a) (on_shift n a on_a)),
       pass_far (n + 3) (letter 1 false) (shift (shift a)) (far_shift a (on_word n a on_a)),
-      drop_left (n + 3) (shift (shift a)) (on_more (n + 1 + 1) (n + 3) (omega arith) (shift (shift a)) (on_shift (n + 1) (shift a) (on_shift n a on_a))),
+      drop_left (n + 3) (shift (shift a))
+          (on_more (n + 1 + 1) (n + 3) (omega arith) (shift (shift a))
+          (on_shift (n + 1) (shift a) (on_shift n a on_a))),
       pass_far (n + 3) (letter 1 false) (shift (shift c)) (far_shift c (on_word n c on_c)),
       braid (n + 3) 1 2 (inl refl) false,
       drop_letter (n + 3) (letter 2 false) (omega arith),
@@ -152,7 +171,8 @@ Equivalent-distributive a b c word_a word_b word_c =
     let on_inner : IsOn (n + 1) (bracket b c) = on_bracket n b c (omega arith) on_b on_c in
     let on_both : IsOn (n + 1 + 1) (bracket a (bracket b c)) =
     on_bracket (n + 1) a (bracket b c) (omega arith) (on_more n (n + 1) (omega arith) a on_a) on_inner in
-    let on : IsOn (n + 3) (bracket a (bracket b c)) = on_more (n + 1 + 1) (n + 3) (omega arith) (bracket a (bracket b c)) on_both in
+    let on : IsOn (n + 3) (bracket a (bracket b c)) =
+    on_more (n + 1 + 1) (n + 3) (omega arith) (bracket a (bracket b c)) on_both in
     (n + 3, alike_left (Alike-sym (alike-distributive n a b c on_a on_b on_c)) on)
 
 -- ---- Order ----
@@ -175,7 +195,8 @@ positive-behind a b word_a word_b =
     each_weaker _ _ other_letter (inverse (shift a))
     (each_inverse (λ x. 2 ≤ x.index) (λ x. 2 ≤ x.index) (λ x p. p) (shift a) (high_shift a word_a)) in (
       some_right _ (shift b) (letter 1 false ∷ inverse (shift a)) (inl refl),
-      each_append _ (shift b) (letter 1 false ∷ inverse (shift a)) none (((omega arith), λ e. false≢true (ap (λ (z : Letter). z.negative) e)), rest),
+      each_append _ (shift b) (letter 1 false ∷ inverse (shift a)) none
+          (((omega arith), λ e. false≢true (ap (λ (z : Letter). z.negative) e)), rest),
     )
 
 -- a word is less than its bracket with any word
@@ -184,5 +205,8 @@ less-bracket a b word_a word_b =
     let behind = shift b ++ (letter 1 false ∷ inverse (shift a)) in
     let (n, on_n) = on_some (a ++ behind) (word_bracket a b word_a word_b) in
     let on_a : IsOn n a = on_left n a behind on_n in
-    let on_b : IsOn n behind = on_right n a behind on_n in
-    (behind, (1, positive-behind a b word_a word_b), (n, EquivalentOn-sym (EquivalentOn-drop_left n a behind on_a on_b)))
+    let on_b : IsOn n behind = on_right n a behind on_n in (
+      behind,
+      (1, positive-behind a b word_a word_b),
+      (n, EquivalentOn-sym (EquivalentOn-drop_left n a behind on_a on_b)),
+    )

@@ -10,7 +10,9 @@ use braid_word::Letter;
 /// The law is the contract; the body does nothing. After Dehornoy, Braid groups and left distributive
 /// operations.
 pub fn law_distributive(a: &[Letter], b: &[Letter], c: &[Letter])
-    ensures { IsWord a.now → IsWord b.now → IsWord c.now → Equivalent (bracket a.now (bracket b.now c.now)) (bracket (bracket a.now b.now) (bracket a.now c.now)) }
+    ensures { IsWord a.now → IsWord b.now → IsWord c.now
+        → Equivalent (bracket a.now (bracket b.now c.now))
+        (bracket (bracket a.now b.now) (bracket a.now c.now)) }
 {}
 
 /// A braid word is less than its bracket with any other, in the order on braids.

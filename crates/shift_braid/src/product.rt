@@ -110,7 +110,9 @@ pub fn bracket(alloc: Global, a: &[Letter], b: &[Letter]) -> Result<Word, Bracke
     ensures short { IfOk result (λ w. length w ≤ MAX_LETTERS) }
     ensures low { IfOk result (λ _. IsOn MAX_INDEX a.now × IsOn MAX_INDEX b.now) }
     ensures too_long { result ≡ Err TooLong → MAX_LETTERS < length (bracket a.now b.now) }
-    ensures index { result ≡ Err Index → (length (bracket a.now b.now) ≤ MAX_LETTERS) × (HasIndexFrom MAX_INDEX a.now ⊎ HasIndexFrom MAX_INDEX b.now) }
+    ensures index { result ≡ Err Index
+        → (length (bracket a.now b.now) ≤ MAX_LETTERS)
+        × (HasIndexFrom MAX_INDEX a.now ⊎ HasIndexFrom MAX_INDEX b.now) }
 {
     let length = 2 * a.len() + b.len() + 1;
     if length > MAX_LETTERS {

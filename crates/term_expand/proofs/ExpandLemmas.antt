@@ -1,7 +1,8 @@
 -- Expansion at an address: down to the place, and back with a product at each step.
 --
--- An expansion of a part is one of the whole (`expansion_at-Expands`). A function that went to a part has only
--- the product above it to ask for (`IsDue`), and so its answer is an outcome (`product-done`, `product-refused`).
+-- An expansion of a part is one of the whole (`expansion_at-Expands`). A function that went to a part has
+-- only the product above it to ask for (`IsDue`), and so its answer is an outcome (`product-done`,
+-- `product-refused`).
 use Rattle.std.proofs.Common.{◌≡◌, ℕ, ◌<◌, ◌==◌, inl, inr, true, false, List, [], ◌∷◌, ◌++◌, length, Result, Ok, Err, IfOk, refl, sym, ap, ◌∙◌, subst, arith}
 use Rattle.std.proofs.lemmas.Bool.{cases_Bool, eq-eqb, ne_eqb}
 use Rattle.ld_term.specs.Terms.{Term, variable, multiply, Expands, here, on_left, on_right}
@@ -206,7 +207,8 @@ step-refusal
     → IsExpandStopped old new (expand_requests address t) e
     → IsExpandRefusal (expansion_at address t) (ask_all (answered old) (expand_requests address t)) e
 step-refusal old new address rest t part whole NoPlace step is stop = step.expansion ∙ ap (within whole) is
-step-refusal old new address rest t part whole NotExpandable step is stop = step.expansion ∙ ap (within whole) is
+step-refusal old new address rest t part whole NotExpandable step is stop =
+    step.expansion ∙ ap (within whole) is
 step-refusal old new address rest t part whole TooDeep step is stop =
     IsStopped-refusal old new (expand_requests address t) graph_errors.TooDeep stop
 step-refusal old new address rest t part whole Full step is stop =
@@ -257,7 +259,8 @@ pub left-due
     → Outcome old rest (term_at old left) mid (Ok n)
     → IsDue old mid address t (multiply (term_at mid n) (term_at mid right))
 left-due old mid address rest t left right n step within out =
-    subst (λ z. IsDue old mid address t (multiply (term_at mid n) z)) (sym (term_at-front old mid right out.kept within))
+    subst (λ z. IsDue old mid address t (multiply (term_at mid n) z))
+    (sym (term_at-front old mid right out.kept within))
     (part-done old mid address rest t _ _ n step out)
 
 -- that of the right part's expansion is due
@@ -268,7 +271,8 @@ pub right-due
     → Outcome old rest (term_at old right) mid (Ok n)
     → IsDue old mid address t (multiply (term_at mid left) (term_at mid n))
 right-due old mid address rest t left right n step within out =
-    subst (λ z. IsDue old mid address t (multiply z (term_at mid n))) (sym (term_at-front old mid left out.kept within))
+    subst (λ z. IsDue old mid address t (multiply z (term_at mid n)))
+    (sym (term_at-front old mid left out.kept within))
     (part-done old mid address rest t _ _ n step out)
 
 -- ---- At the place ----
@@ -285,14 +289,16 @@ pub are-placed
     : (old : List Term) (node left right middle last : ℕ)
     → node < length old
     → (left < node) × (right < node) × (term_at old node ≡ multiply (term_at old left) (term_at old right))
-    → (middle < right) × (last < right) × (term_at old right ≡ multiply (term_at old middle) (term_at old last))
+    → (middle < right) × (last < right)
+    × (term_at old right ≡ multiply (term_at old middle) (term_at old last))
     → ArePlaced old (term_at old node) left middle last
-are-placed old node left right middle last within (left_low, right_low, whole) (middle_low, last_low, part) = record {
-  left_within = omega (arith, within, left_low);
-  middle_within = omega (arith, within, right_low, middle_low);
-  last_within = omega (arith, within, right_low, last_low);
-  is = whole ∙ ap (multiply (term_at old left)) part;
-}
+are-placed old node left right middle last within (left_low, right_low, whole) (middle_low, last_low, part) =
+    record {
+      left_within = omega (arith, within, left_low);
+      middle_within = omega (arith, within, right_low, middle_low);
+      last_within = omega (arith, within, right_low, last_low);
+      is = whole ∙ ap (multiply (term_at old left)) part;
+    }
 
 module _ (old : List Term) (t : Term) (left middle last : ℕ) (placed : ArePlaced old t left middle last) where
   abbrev here_first : Term
@@ -320,7 +326,8 @@ module _ (old : List Term) (t : Term) (left middle last : ℕ) (placed : ArePlac
     -- behind tu the two others are left
     first-due : AreLeft old mid (expand_requests [] t) (here_second ∷ (multiply here_first here_second ∷ []))
     first-due =
-        subst (λ z. AreLeft old mid z (here_second ∷ (multiply here_first here_second ∷ []))) (sym here-requests)
+        subst (λ z. AreLeft old mid z (here_second ∷ (multiply here_first here_second ∷ [])))
+        (sym here-requests)
         (AreLeft-granted old mid (here_first ∷ []) _ (ask_all-one old here_first ∙ granted))
 
     -- tv is refused

@@ -27,10 +27,14 @@ below_row : expansion_at (codes "00") small ≡ no_place
 below_row = refl
 
 -- `0` leads to the left part, `1` to the right one
-left_row : expansion_at (codes "0") (multiply small variable) ≡ expanded (multiply (multiply square square) variable)
+left_row
+    : expansion_at (codes "0") (multiply small variable)
+    ≡ expanded (multiply (multiply square square) variable)
 left_row = refl
 
-right_row : expansion_at (codes "1") (multiply variable small) ≡ expanded (multiply variable (multiply square square))
+right_row
+    : expansion_at (codes "1") (multiply variable small)
+    ≡ expanded (multiply variable (multiply square square))
 right_row = refl
 
 -- of x(x(xx)) at `1`: two products of the part, the part, and then the whole
@@ -46,7 +50,8 @@ no_requests_row = refl
 -- xx distributed over xx: (xx)x for each leaf, and then the whole
 distribute_row
     : distribute_requests square square
-    ≡ multiply square variable ∷ multiply square variable ∷ multiply (multiply square variable) (multiply square variable) ∷ []
+    ≡ multiply square variable ∷ multiply square variable ∷ multiply (multiply square variable)
+    (multiply square variable) ∷ []
 distribute_row = refl
 
 -- the derivation of (xx)x asks for xx, and then for the distribution of xx over x

@@ -75,7 +75,8 @@ pub IsMemo-remembered
 IsMemo-remembered terms old new work n is all answer =
     let P : Work × ℕ → Type 0 = λ own. IsAnswer terms own.0 own.1 in
     subst (All P) (sym is)
-    (All-from_recursion P _ (insert-recursion P work n answer old.numbers.entries (recursion_from_All P old.numbers.entries all)))
+    (All-from_recursion P _
+    (insert-recursion P work n answer old.numbers.entries (recursion_from_All P old.numbers.entries all)))
 
 -- ---- A graph that grows ----
 
@@ -151,7 +152,10 @@ IsMade-answer old new work n numbers made =
     }
 
 -- an answer is made without a change
-pub IsAnswer-made : (terms : List Term) (work : Work) (n : ℕ) → IsAnswer terms work n → IsMade terms terms work n
+pub IsAnswer-made
+    : (terms : List Term) (work : Work) (n : ℕ)
+    → IsAnswer terms work n
+    → IsMade terms terms work n
 IsAnswer-made terms work n answer = record {
   within = answer.within;
   term = answer.term;

@@ -1,7 +1,8 @@
 -- What the functions that expand a part of a graph's term answer. No public clause cites this module.
 --
 --   failure_of error                    why an expansion fails one of whose products is refused so
---   Outcome old address t new result    the answer of an expansion of t at an address, and what the graph is then
+-- Outcome old address t new result    the answer of an expansion of t at an address, and what the graph is
+-- then
 use Rattle.std.specs.Prelude.{◌≡◌, ℕ, ◌<◌, List, length, Result, IfOk, IfErr, OnOk, IsErrOf}
 use Rattle.ld_term.specs.Terms.{Term}
 use Rattle.term_graph.specs.TermLists.{term_at}
@@ -22,12 +23,15 @@ failure_of graph_errors.Memory = Memory
 
 -- The answer of an expansion.
 pub record Outcome
-    (old : List Term) (address : List ℕ) (t : Term) (new : List Term) (result : Result ℕ ExpandErr) : Type 0 where
-  pub number : IfOk result (λ n. n < length new)
-  pub term : IfOk result (λ n. expansion_at address t ≡ expanded (term_at new n))
-  pub asked : OnOk result (ask_all (answered old) (expand_requests address t) ≡ answered new)
-  pub refused : IfErr result (IsExpandRefusal (expansion_at address t) (ask_all (answered old) (expand_requests address t)))
-  pub placeless : expansion_at address t ≡ no_place → IsErrOf result NoPlace
-  pub stuck : expansion_at address t ≡ not_expandable → IsErrOf result NotExpandable
-  pub kept : IsFront old new
-  pub stopped : IfErr result (IsExpandStopped old new (expand_requests address t))
+    (old : List Term) (address : List ℕ) (t : Term) (new : List Term) (result : Result ℕ ExpandErr) : Type 0
+  where
+    pub number : IfOk result (λ n. n < length new)
+    pub term : IfOk result (λ n. expansion_at address t ≡ expanded (term_at new n))
+    pub asked : OnOk result (ask_all (answered old) (expand_requests address t) ≡ answered new)
+    pub refused
+        : IfErr result
+        (IsExpandRefusal (expansion_at address t) (ask_all (answered old) (expand_requests address t)))
+    pub placeless : expansion_at address t ≡ no_place → IsErrOf result NoPlace
+    pub stuck : expansion_at address t ≡ not_expandable → IsErrOf result NotExpandable
+    pub kept : IsFront old new
+    pub stopped : IfErr result (IsExpandStopped old new (expand_requests address t))

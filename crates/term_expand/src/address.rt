@@ -12,8 +12,8 @@ fn is_side(byte: u8) -> bool
 
 /// Whether some bytes are an address: at most 1,000 of them, each `0` or `1`.
 ///
-/// The empty address is that of the term itself. Each byte leads from a product to its left part at `0`, and to
-/// its right part at `1`.
+/// The empty address is that of the term itself. Each byte leads from a product to its left part at `0`, and
+/// to its right part at `1`.
 pub fn is_address(bytes: &[u8]) -> bool
     ensures { IsTrue result ↔ IsAddress bytes.now }
 {

@@ -45,11 +45,15 @@ fn derive_by(graph: &mut TermGraph, memo: &mut Memo, node: NodeId) -> Result<Nod
 /// After P. Dehornoy, Braids and Self-Distributivity, 2000.
 pub fn derive(alloc: Global, graph: &mut TermGraph, node: NodeId) -> Result<NodeId, GraphErr>
     requires { node < length graph.old }
-    ensures term { IfOk result (λ n. (n < length graph.new) × (term_at graph.new n ≡ derived (term_at graph.old node))) }
+    ensures term { IfOk result
+        (λ n. (n < length graph.new) × (term_at graph.new n ≡ derived (term_at graph.old node))) }
     ensures equivalent { IfOk result (λ n. IsEquivalent (term_at graph.old node) (term_at graph.new n)) }
-    ensures asked { OnOk result (ask_all (answered graph.old) (derive_requests (term_at graph.old node)) ≡ answered graph.new) }
-    ensures refused { IfErr result (IsRefusal (ask_all (answered graph.old) (derive_requests (term_at graph.old node)))) }
-    ensures stopped { IfErr result (IsStopped graph.old graph.new (derive_requests (term_at graph.old node))) }
+    ensures asked { OnOk result
+        (ask_all (answered graph.old) (derive_requests (term_at graph.old node)) ≡ answered graph.new) }
+    ensures refused { IfErr result
+        (IsRefusal (ask_all (answered graph.old) (derive_requests (term_at graph.old node)))) }
+    ensures stopped { IfErr result
+        (IsStopped graph.old graph.new (derive_requests (term_at graph.old node))) }
     ensures kept { IsFront graph.old graph.new }
 {
     let mut memo = Memo::new(alloc);

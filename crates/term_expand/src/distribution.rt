@@ -45,8 +45,8 @@ pub(crate) fn distribute_by(
 /// The number of the second term with the first multiplied from the left to each of its leaves, which is
 /// equivalent to their product.
 ///
-/// Its products are asked for leaf by leaf from the left, each behind its parts. It takes as many steps as the
-/// second term has different parts. After a refusal the products that were made stay.
+/// Its products are asked for leaf by leaf from the left, each behind its parts. It takes as many steps as
+/// the second term has different parts. After a refusal the products that were made stay.
 /// After P. Dehornoy, Braids and Self-Distributivity, 2000.
 pub fn distribute(
     alloc: Global,
@@ -56,11 +56,19 @@ pub fn distribute(
 ) -> Result<NodeId, GraphErr>
     requires left { a < length graph.old }
     requires right { b < length graph.old }
-    ensures term { IfOk result (λ n. (n < length graph.new) × (term_at graph.new n ≡ distributed (term_at graph.old a) (term_at graph.old b))) }
-    ensures equivalent { IfOk result (λ n. IsEquivalent (multiply (term_at graph.old a) (term_at graph.old b)) (term_at graph.new n)) }
-    ensures asked { OnOk result (ask_all (answered graph.old) (distribute_requests (term_at graph.old a) (term_at graph.old b)) ≡ answered graph.new) }
-    ensures refused { IfErr result (IsRefusal (ask_all (answered graph.old) (distribute_requests (term_at graph.old a) (term_at graph.old b)))) }
-    ensures stopped { IfErr result (IsStopped graph.old graph.new (distribute_requests (term_at graph.old a) (term_at graph.old b))) }
+    ensures term { IfOk result
+        (λ n. (n < length graph.new)
+        × (term_at graph.new n ≡ distributed (term_at graph.old a) (term_at graph.old b))) }
+    ensures equivalent { IfOk result
+        (λ n. IsEquivalent (multiply (term_at graph.old a) (term_at graph.old b)) (term_at graph.new n)) }
+    ensures asked { OnOk result
+        (ask_all (answered graph.old) (distribute_requests (term_at graph.old a) (term_at graph.old b))
+        ≡ answered graph.new) }
+    ensures refused { IfErr result
+        (IsRefusal (ask_all (answered graph.old)
+        (distribute_requests (term_at graph.old a) (term_at graph.old b)))) }
+    ensures stopped { IfErr result
+        (IsStopped graph.old graph.new (distribute_requests (term_at graph.old a) (term_at graph.old b))) }
     ensures kept { IsFront graph.old graph.new }
 {
     let mut memo = Memo::new(alloc);

@@ -40,7 +40,8 @@ impl Memo {
 
     // Remembers the number of a term.
     pub(crate) fn remember(&mut self, work: Work, number: NodeId) -> Result<(), AllocError>
-        ensures { (terms : List Term) → IsMemo terms self.old → IsAnswer terms work number → OnOk result (IsMemo terms self.new) }
+        ensures { (terms : List Term) → IsMemo terms self.old → IsAnswer terms work number
+            → OnOk result (IsMemo terms self.new) }
     {
         let Ok(_) = self.numbers.insert(work, number) else {
             return Err(AllocError);

@@ -231,7 +231,8 @@ Grants-more old t requests new middle first rest = record {
   has = λ u there. elim (cases_Bool (same_term u t)) [
     | inl one ↦
         let is = same_term-true u t one in
-        subst (λ z. has_term z new ≡ true) (sym is) (Extends-has_term rest.extends t (ask-has old t middle first))
+        subst (λ z. has_term z new ≡ true) (sym is)
+        (Extends-has_term rest.extends t (ask-has old t middle first))
     | inr other ↦ rest.has u (rw other at there)
   ];
 }
@@ -257,7 +258,8 @@ pub ask_all-Grants
     → Grants old requests new
 ask_all-Grants old [] new is = Grants-none old new is
 ask_all-Grants old (t ∷ requests) new is =
-    Grants-next old t requests new (ask old t) refl is (λ middle rest. ask_all-Grants middle requests new rest)
+    Grants-next old t requests new (ask old t) refl is
+    (λ middle rest. ask_all-Grants middle requests new rest)
 
 -- requests for terms that are there change nothing
 pub ask_all-there

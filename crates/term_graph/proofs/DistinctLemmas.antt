@@ -45,7 +45,8 @@ Follows-push
 Follows-push limit listed [] t follows next = (subst (λ z. IsNext limit z t) (append-nil listed) next, tt)
 Follows-push limit listed (u ∷ ts) t follows next = (
   follows.0,
-  Follows-push limit (listed ++ (u ∷ [])) ts t follows.1 (subst (λ z. IsNext limit z t) (sym (append_assoc listed (u ∷ []) ts)) next),
+  Follows-push limit (listed ++ (u ∷ [])) ts t follows.1
+      (subst (λ z. IsNext limit z t) (sym (append_assoc listed (u ∷ []) ts)) next),
 )
 
 -- what is there stays there
@@ -69,7 +70,8 @@ IsAdded-product
     → IsAdded limit mid new r
     → IsAdded limit old (add_new new (multiply l r ∷ [])) (multiply l r)
 IsAdded-product limit old mid new l r low left right = elim (cases_Bool (has_term (multiply l r) new)) [
-  | inl listed ↦ rw listed record { more = Extends-trans left.more right.more; follows = right.follows; there = listed }
+  | inl listed ↦
+      rw listed record { more = Extends-trans left.more right.more; follows = right.follows; there = listed }
   | inr absent ↦ rw absent record {
     more = Extends-trans (Extends-trans left.more right.more) record { added = multiply l r ∷ []; is = refl };
     follows =
@@ -89,7 +91,8 @@ IsAdded-products
     → height t ≤ limit
     → Follows limit [] listed
     → IsAdded limit listed (add_new listed (products t)) t
-IsAdded-products limit listed variable low follows = record { more = Extends-self listed; follows = follows; there = tt }
+IsAdded-products limit listed variable low follows =
+    record { more = Extends-self listed; follows = follows; there = tt }
 IsAdded-products limit listed (multiply l r) low follows =
     let left = IsAdded-products limit listed l (omega arith) follows in
     let right = IsAdded-products limit (add_new listed (products l)) r (omega arith) left.follows in
@@ -126,7 +129,9 @@ unfolding distinct_products
 distinct-variable = refl
 
 -- behind x they have the term at the last place
-pub term_at-distinct : (t : Term) → term_at (variable ∷ distinct_products t) (length (distinct_products t)) ≡ t
+pub term_at-distinct
+    : (t : Term)
+    → term_at (variable ∷ distinct_products t) (length (distinct_products t)) ≡ t
 term_at-distinct variable = rw distinct-variable refl
 term_at-distinct (multiply l r) =
     let last = get_or_push (variable ∷ part_products l r) (multiply l r) variable in

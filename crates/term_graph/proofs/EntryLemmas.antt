@@ -65,7 +65,8 @@ pub entries-push
     → next ≡ insert_key same_pair pairs p
     → more ≡ entries ++ e ∷ []
     → IsKept next (terms_of more) × All IsEntry more
-entries-push pairs entries old a b p e next more kept each view in_a in_b few new key term entry pairs_are entries_are =
+entries-push pairs entries old a b p e next more kept each view in_a in_b few new key term entry pairs_are
+    entries_are =
     let before : IsKept pairs old = subst (IsKept pairs) view kept in
     let absent : list_any (same_pair (a, b)) pairs ≡ false =
     sym (product-listed pairs old before a b in_a in_b) ∙ new in

@@ -93,7 +93,8 @@ AreLow-text_requests n (times a b) low =
     let high : height (meaning [] (times a b)) ≡ written_height (times a b) =
     ap height (meaning-as_term (times a b)) ∙ height-as_term (times a b) in
     AreLow-append n (text_requests [] a) _ (AreLow-text_requests n a (omega arith))
-    (AreLow-append n (text_requests [] b) _ (AreLow-text_requests n b (omega arith)) (omega (arith, high), tt))
+    (AreLow-append n (text_requests [] b) _ (AreLow-text_requests n b (omega arith))
+    (omega (arith, high), tt))
 
 -- a new graph grants what a small term asks for
 pub text_requests-granted

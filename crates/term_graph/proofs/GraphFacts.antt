@@ -33,13 +33,15 @@ length_right = refl
 
 -- the leftmost unknown name of a*(b*c), where a alone is known, is b at place 4
 unknown_row
-    : first_unknown (codes "a" ∷ []) (times (named (codes "a") 1) (times (named (codes "b") 4) (named (codes "c") 6)))
+    : first_unknown (codes "a" ∷ [])
+    (times (named (codes "a") 1) (times (named (codes "b") 4) (named (codes "c") 6)))
     ≡ Some 4
 unknown_row = refl
 
 -- a name that is defined again comes before an unknown one in the same line
 twice_row
-    : line_fault 2 (codes "a" ∷ []) (definition (codes "a") 1 (times (named (codes "b") 4) leaf)) ≡ Some (Twice 2 1)
+    : line_fault 2 (codes "a" ∷ []) (definition (codes "a") 1 (times (named (codes "b") 4) leaf))
+    ≡ Some (Twice 2 1)
 twice_row = refl
 
 -- a name isn't known in its own line
@@ -48,7 +50,8 @@ own_row = refl
 
 -- the lines `a = x*x` and `x*a` ask for xx, and then for x(xx)
 file_row
-    : file_requests [] (definition (codes "a") 1 (times leaf leaf) ∷ closing (times leaf (named (codes "a") 3)) ∷ [])
+    : file_requests []
+    (definition (codes "a") 1 (times leaf leaf) ∷ closing (times leaf (named (codes "a") 3)) ∷ [])
     ≡ square ∷ multiply variable square ∷ []
 file_row = refl
 

@@ -7,11 +7,12 @@ pub mod MakeLemmas
 pub mod LineTextLemmas
 pub mod EntryLemmas
 pub mod NameListLemmas
-pub mod FaultLemmas
 pub mod FileLemmas
 pub mod StopLemmas
 pub mod RequestLemmas
+pub mod KeepLineLemmas
 pub mod ReadingLemmas
+pub mod ReadingStepLemmas
 pub mod LineReadLemmas
 pub mod GrantLemmas
 pub mod DistinctLemmas

@@ -15,7 +15,7 @@ use Rattle.term_graph.specs.TermFiles.{Line, definition, closing, line_term, Due
 use Rattle.term_graph.specs.Readings.{fault_at}
 use Rattle.term_graph.specs.declared.file_error.DefsErr.{DefsErr}
 use Rattle.term_graph.specs.declared.file_error.DefsErr.TheVariants.{TooDeep, TooMany, Twice, Unknown, Memory}
-use Rattle.term_graph.proofs.FaultLemmas.{fault-same}
+use Rattle.ld_term.proofs.FaultLemmas.{fault-same}
 use Rattle.term_graph.proofs.RequestLemmas.{is_known-number}
 
 -- ---- Sizes ----
@@ -34,7 +34,10 @@ size_fault-deep k height t deep =
     simp (high, deep.is)
 
 -- the fault of a term that has too many products
-size_fault-many : (k products : ℕ) (t : Written) → IsTooLarge t products → size_fault k t ≡ Some (TooMany k products)
+size_fault-many
+    : (k products : ℕ) (t : Written)
+    → IsTooLarge t products
+    → size_fault k t ≡ Some (TooMany k products)
 size_fault-many k products t large =
     let low : nat_lt MAX_HEIGHT (written_height t) ≡ false = le-ltb _ _ large.low in
     let many : nat_lt MAX_PRODUCTS (written_products t) ≡ true = lt-ltb _ _ large.above in
@@ -59,11 +62,18 @@ module _ (k : ℕ) (names : List (List ℕ)) (line : Due) (r : Line) (says : Say
   line-deep height deep = faulty r says (rw (size_fault-deep k height (line_term r) deep) refl)
 
   -- a line whose term has too many products
-  pub line-many : (products : ℕ) → IsTooLarge (line_term r) products → IsLineFault k names line (TooMany k products)
+  pub line-many
+      : (products : ℕ)
+      → IsTooLarge (line_term r) products
+      → IsLineFault k names line (TooMany k products)
   line-many products large = faulty r says (rw (size_fault-many k products (line_term r) large) refl)
 
   -- a line that defines a name again
-  pub line-twice : (e : DefsErr) → IsSmall (line_term r) → twice_fault k names r ≡ Some e → IsLineFault k names line e
+  pub line-twice
+      : (e : DefsErr)
+      → IsSmall (line_term r)
+      → twice_fault k names r ≡ Some e
+      → IsLineFault k names line e
   line-twice e small twice = faulty r says (rw (size_fault-none k (line_term r) small, twice) refl)
 
   -- a line with an unknown name
@@ -104,18 +114,26 @@ pub definition-refused
     → IsRefused IsDefinitionOf (line_tokens (record { defines = true; bytes = bytes })) (length bytes) e
     → (fault_at k e ≡ Memory) ⊎ IsLineFault k names (record { defines = true; bytes = bytes }) (fault_at k e)
 definition-refused k names bytes (term_errors.Form place) fault =
-    inr (unread place (fault-same (λ tokens. (t : Written) × IsDefinitionOf tokens t) (λ tokens. (r : Line) × IsLineText true tokens r) _ _ place there back fault) refl)
+    inr (unread place (fault-same (λ tokens. (t : Written) × IsDefinitionOf tokens t)
+    (λ tokens. (r : Line) × IsLineText true tokens r) _ _ place there back fault) refl)
   where
-    there : (tokens : List Token) → (t : Written) × IsDefinitionOf tokens t → (r : Line) × IsLineText true tokens r
+    there
+        : (tokens : List Token)
+        → (t : Written) × IsDefinitionOf tokens t
+        → (r : Line) × IsLineText true tokens r
     there tokens (t, (name, at, text)) = (definition name at t, text)
 
-    back : (tokens : List Token) → (r : Line) × IsLineText true tokens r → (t : Written) × IsDefinitionOf tokens t
+    back
+        : (tokens : List Token)
+        → (r : Line) × IsLineText true tokens r
+        → (t : Written) × IsDefinitionOf tokens t
     back tokens (definition name at t, text) = (t, (name, at, text))
     back tokens (closing t, text) = absurd text
 definition-refused k names bytes (term_errors.TooDeep height) (t, (name, at, text), deep) =
     inr (line-deep k names (record { defines = true; bytes = bytes }) (definition name at t) text height deep)
 definition-refused k names bytes (term_errors.TooMany products) (t, (name, at, text), large) =
-    inr (line-many k names (record { defines = true; bytes = bytes }) (definition name at t) text products large)
+    inr (line-many k names (record { defines = true; bytes = bytes }) (definition name at t) text products
+    large)
 definition-refused k names bytes term_errors.Memory is = inl refl
 
 -- and a line that isn't read as a term
@@ -124,12 +142,19 @@ pub term-refused
     → IsRefused (IsTermText false) (line_tokens (record { defines = false; bytes = bytes })) (length bytes) e
     → (fault_at k e ≡ Memory) ⊎ IsLineFault k names (record { defines = false; bytes = bytes }) (fault_at k e)
 term-refused k names bytes (term_errors.Form place) fault =
-    inr (unread place (fault-same (λ tokens. (t : Written) × IsTermText false tokens t) (λ tokens. (r : Line) × IsLineText false tokens r) _ _ place there back fault) refl)
+    inr (unread place (fault-same (λ tokens. (t : Written) × IsTermText false tokens t)
+    (λ tokens. (r : Line) × IsLineText false tokens r) _ _ place there back fault) refl)
   where
-    there : (tokens : List Token) → (t : Written) × IsTermText false tokens t → (r : Line) × IsLineText false tokens r
+    there
+        : (tokens : List Token)
+        → (t : Written) × IsTermText false tokens t
+        → (r : Line) × IsLineText false tokens r
     there tokens (t, text) = (closing t, text)
 
-    back : (tokens : List Token) → (r : Line) × IsLineText false tokens r → (t : Written) × IsTermText false tokens t
+    back
+        : (tokens : List Token)
+        → (r : Line) × IsLineText false tokens r
+        → (t : Written) × IsTermText false tokens t
     back tokens (definition name at t, text) = absurd text
     back tokens (closing t, text) = (t, text)
 term-refused k names bytes (term_errors.TooDeep height) (t, text, deep) =

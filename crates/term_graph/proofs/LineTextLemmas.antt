@@ -16,7 +16,8 @@ product_line-parts
     → product_line listed k s
     ≡ (((codes "t" ++ decimal k) ++ codes " = (") ++ parts_text listed t u) ++ (41 ∷ 10 ∷ [])
 product_line-parts listed k s t u is =
-    ap (product_line listed k) is ∙ cut (codes "t") (decimal k) (codes " = (") (name_text listed t) (codes "*") (name_text listed u)
+    ap (product_line listed k) is
+    ∙ cut (codes "t") (decimal k) (codes " = (") (name_text listed t) (codes "*") (name_text listed u)
   where
     cut
         : (a b c d e f : List ℕ)
@@ -37,7 +38,8 @@ module _
   -- and has this line
   pub line_at-parts
       : line_at (distinct_products (term_at made root)) k
-      ≡ (((codes "t" ++ decimal (k + 1)) ++ codes " = (") ++ parts_text (distinct_products (term_at made root)) t u) ++ (41 ∷ 10 ∷ [])
+      ≡ (((codes "t" ++ decimal (k + 1)) ++ codes " = (")
+      ++ parts_text (distinct_products (term_at made root)) t u) ++ (41 ∷ 10 ∷ [])
   line_at-parts =
       product_line-parts (distinct_products (term_at made root)) (k + 1) _ t u
       (listing-at made root numbers listing k within ∙ ap (term_at made) (sym here) ∙ product)
@@ -53,12 +55,14 @@ product_lines-append listed k (t ∷ ts) us =
     ap (λ z. product_line listed k t ++ z)
     (product_lines-append listed (k + 1) ts us
     ∙ ap (λ z. product_lines listed (k + 1) ts ++ product_lines listed z us) next)
-    ∙ sym (append_assoc (product_line listed k t) (product_lines listed (k + 1) ts) (product_lines listed (k + length (t ∷ ts)) us))
+    ∙ sym (append_assoc (product_line listed k t) (product_lines listed (k + 1) ts)
+    (product_lines listed (k + length (t ∷ ts)) us))
 
 module _ (listed : List Term) (k : ℕ) (within : k < length listed) where
   -- the lines before a place, and the one there
   pub product_lines-more
-      : product_lines listed 1 (take (k + 1) listed) ≡ product_lines listed 1 (take k listed) ++ line_at listed k
+      : product_lines listed 1 (take (k + 1) listed)
+      ≡ product_lines listed 1 (take k listed) ++ line_at listed k
   product_lines-more =
       let size : 1 + length (take k listed) ≡ k + 1 = omega (arith, within, length-take k listed) in
       ap (product_lines listed 1) (take_more listed k variable within)
@@ -69,11 +73,13 @@ module _ (listed : List Term) (k : ℕ) (within : k < length listed) where
   -- and those behind them
   pub product_lines-split
       : product_lines listed 1 listed
-      ≡ (product_lines listed 1 (take k listed) ++ line_at listed k) ++ product_lines listed (1 + length (take (k + 1) listed)) (drop (k + 1) listed)
+      ≡ (product_lines listed 1 (take k listed) ++ line_at listed k)
+      ++ product_lines listed (1 + length (take (k + 1) listed)) (drop (k + 1) listed)
   product_lines-split =
       ap (product_lines listed 1) (sym (take-append-drop (k + 1) listed))
       ∙ product_lines-append listed 1 (take (k + 1) listed) (drop (k + 1) listed)
-      ∙ ap (λ z. z ++ product_lines listed (1 + length (take (k + 1) listed)) (drop (k + 1) listed)) product_lines-more
+      ∙ ap (λ z. z ++ product_lines listed (1 + length (take (k + 1) listed)) (drop (k + 1) listed))
+      product_lines-more
 
   -- the lines up to a place are no longer than all
   pub length-product_lines
@@ -82,13 +88,20 @@ module _ (listed : List Term) (k : ℕ) (within : k < length listed) where
   length-product_lines =
       let front = product_lines listed 1 (take k listed) in
       let rest = product_lines listed (1 + length (take (k + 1) listed)) (drop (k + 1) listed) in
-      omega (arith, ap length product_lines-split, length-append (front ++ line_at listed k) rest, length-append front (line_at listed k))
+      omega (
+        arith,
+        ap length product_lines-split,
+        length-append (front ++ line_at listed k) rest,
+        length-append front (line_at listed k),
+      )
 
 -- the text is the lines of the products, the name of the term, and LF
 pub listing_text-parts
     : (t : Term)
     → listing_text t
-    ≡ (product_lines (distinct_products t) 1 (distinct_products t) ++ name_text (distinct_products t) t) ++ 10 ∷ []
+    ≡ (product_lines (distinct_products t) 1 (distinct_products t) ++ name_text (distinct_products t) t)
+    ++ 10 ∷ []
 unfolding listing_text
 listing_text-parts t =
-    sym (append_assoc (product_lines (distinct_products t) 1 (distinct_products t)) (name_text (distinct_products t) t) (10 ∷ []))
+    sym (append_assoc (product_lines (distinct_products t) 1 (distinct_products t))
+    (name_text (distinct_products t) t) (10 ∷ []))

@@ -37,7 +37,8 @@ name-other k n low also other = elim (cases_Bool (bytes_eq (number_name k) (numb
   | inl one ↦
       let names : number_name k ≡ number_name n = (bytes_eq-Decides (number_name k) (number_name n)).0 one in
       let digits : decimal k ≡ decimal n = cc in
-      absurd (other (sym (digits_value-of_decimal k low) ∙ ap (digits_value 10) digits ∙ digits_value-of_decimal n also))
+      absurd (other (sym (digits_value-of_decimal k low) ∙ ap (digits_value 10) digits
+      ∙ digits_value-of_decimal n also))
 ]
 
 -- a name is itself
@@ -70,7 +71,8 @@ lookup-named
     : (k : ℕ) (before after : List Term) (t : Term)
     → has_term t before ≡ true
     → k + length (before ++ after) < 2 ^ 64
-    → lookup (bytes_eq (number_name (k + places_before t (before ++ after)))) (named_products k before) ≡ Some t
+    → lookup (bytes_eq (number_name (k + places_before t (before ++ after)))) (named_products k before)
+    ≡ Some t
 lookup-named k [] after t there fits = absurd (true≢false (sym there))
 lookup-named k (u ∷ before) after t there fits = elim (cases_Bool (same_term t u)) [
   | inl one ↦
@@ -94,7 +96,8 @@ name-new
     → is_known (number_name n) (keys_of (named_products k before)) ≡ false
 name-new k n [] past fits = refl
 name-new k n (u ∷ before) past fits =
-    rw (name-other n k fits (omega arith) (λ e. omega arith), name-new (k + 1) n before (omega arith) fits) refl
+    rw (name-other n k fits (omega arith) (λ e. omega arith), name-new (k + 1) n before (omega arith) fits)
+    refl
 
 -- ---- Parts ----
 
@@ -126,7 +129,8 @@ known-name listed before after place variable front there = refl
 known-name listed before after place (multiply l r) front there =
     let name = number_name (number_in listed (multiply l r)) in
     let known : is_known name (keys_of (named_products 1 before)) ≡ true =
-    sym (is_some-lookup (bytes_eq name) (named_products 1 before)) ∙ ap is_some (lookup-listed listed before after (multiply l r) front there) in
+    sym (is_some-lookup (bytes_eq name) (named_products 1 before))
+    ∙ ap is_some (lookup-listed listed before after (multiply l r) front there) in
     rw known refl
 
 -- it stands for the term
@@ -152,7 +156,9 @@ height-name listed place variable = refl
 height-name listed place (multiply l r) = refl
 
 -- and no products
-products-name : (listed : List Term) (place : ℕ) (t : Term) → written_products (written_name listed place t) ≡ 0
+products-name
+    : (listed : List Term) (place : ℕ) (t : Term)
+    → written_products (written_name listed place t) ≡ 0
 products-name listed place variable = refl
 products-name listed place (multiply l r) = refl
 
@@ -165,7 +171,10 @@ size-small
     → written_products w ≤ 1
     → size_fault k w ≡ None
 size-small k w low small =
-    rw (le-ltb MAX_HEIGHT (written_height w) (omega arith), le-ltb MAX_PRODUCTS (written_products w) (omega arith)) refl
+    rw (
+      le-ltb MAX_HEIGHT (written_height w) (omega arith),
+      le-ltb MAX_PRODUCTS (written_products w) (omega arith),
+    ) refl
 
 -- the line of the next product has no fault
 sound-product
@@ -177,10 +186,16 @@ sound-product
     (written_line listed (length before + 1) (multiply l r))
 sound-product limit listed before after l r front new =
     let k = length before + 1 in
-    let size : length listed ≡ length before + suc (length after) = ap length front.is ∙ length-append before (multiply l r ∷ after) in
+    let size : length listed ≡ length before + suc (length after) =
+    ap length front.is ∙ length-append before (multiply l r ∷ after) in
     let low : k < 2 ^ 64 = omega (arith, front.fits) in
     let small = size-small k (line_term (written_line listed k (multiply l r)))
-    (omega (arith, height-name listed (left_place k) l, height-name listed (right_place listed k l) r)) (omega (arith, products-name listed (left_place k) l, products-name listed (right_place listed k l) r)) in
+    (omega (arith, height-name listed (left_place k) l, height-name listed (right_place listed k l) r))
+    (omega (
+      arith,
+      products-name listed (left_place k) l,
+      products-name listed (right_place listed k l) r,
+    )) in
     record {
       says = Says-product listed k l r low front.fits;
       none = rw (
@@ -196,12 +211,14 @@ sound-term
     : (listed : List Term) (k : ℕ) (t : Term)
     → length listed + 1 < 2 ^ 64
     → IsThere listed t
-    → IsSound k (keys_of (named_products 1 listed)) record { defines = false; bytes = name_text listed t } (closing (written_name listed 1 t))
+    → IsSound k (keys_of (named_products 1 listed)) record { defines = false; bytes = name_text listed t }
+    (closing (written_name listed 1 t))
 sound-term listed k t fits there = record {
   says = Says-term listed t fits;
   none =
       rw (
-        size-small k (written_name listed 1 t) (omega (arith, height-name listed 1 t)) (omega (arith, products-name listed 1 t)),
+        size-small k (written_name listed 1 t) (omega (arith, height-name listed 1 t))
+            (omega (arith, products-name listed 1 t)),
         known-name listed listed [] 1 t record { is = sym (append-nil listed); fits = fits } there,
       ) refl;
 }
@@ -209,14 +226,16 @@ sound-term listed k t fits there = record {
 -- ---- The lines one after the other ----
 
 -- Lines of which the last is a term: they have no fault, and they ask for these products and are this term.
-record AreRead (k : ℕ) (terms : List (List ℕ × Term)) (texts : List (List ℕ)) (read : List Line) (asked : List Term) (t : Term) : Type 0 where
+record AreRead (k : ℕ) (terms : List (List ℕ × Term)) (texts : List (List ℕ)) (read : List Line)
+    (asked : List Term) (t : Term) : Type 0 where
   sound : AreSound k (keys_of terms) (due_lines 1 texts) read
   requests : file_requests terms read ≡ asked
   last : last_terms terms read ≡ t ∷ []
 
 -- a line more that defines a name
 AreRead-more
-    : (k : ℕ) (terms : List (List ℕ × Term)) (texts : List (List ℕ)) (read : List Line) (asked : List Term) (t u : Term)
+    : (k : ℕ) (terms : List (List ℕ × Term)) (texts : List (List ℕ)) (read : List Line) (asked : List Term)
+    (t u : Term)
     (text name : List ℕ) (w : Written)
     → 0 < length texts
     → IsSound k (keys_of terms) record { defines = true; bytes = text } (definition name 1 w)
@@ -226,12 +245,14 @@ AreRead-more
     → AreRead k terms (text ∷ texts) (definition name 1 w ∷ read) (u ∷ asked) t
 AreRead-more k terms texts read asked t u text name w some line is one rest =
     let defines : true ≡ not (nat_lt (length texts) 1) = rw (le-ltb (length texts) 1 some) refl in
-    let names : keys_of (terms ++ ((name, u) ∷ [])) ≡ keys_of terms ++ (name ∷ []) = map-append _ terms ((name, u) ∷ []) in
+    let names : keys_of (terms ++ ((name, u) ∷ [])) ≡ keys_of terms ++ (name ∷ []) =
+    map-append _ terms ((name, u) ∷ []) in
     let behind : terms ++ ((name, u) ∷ []) ≡ terms ++ ((name, meaning terms w) ∷ []) =
     ap (λ z. terms ++ ((name, z) ∷ [])) (sym is) in
     record {
       sound = (
-        subst (λ b. IsSound k (keys_of terms) record { defines = b; bytes = text } (definition name 1 w)) defines line,
+        subst (λ b. IsSound k (keys_of terms) record { defines = b; bytes = text } (definition name 1 w))
+            defines line,
         subst (λ z. AreSound (k + 1) z (due_lines 1 texts) read) names rest.sound,
       );
       requests = rw one (ap (λ z. u ∷ file_requests z read) (sym behind) ∙ ap (λ z. u ∷ z) rest.requests);
@@ -259,7 +280,8 @@ AreRead-last listed before t front there =
     let all : listed ≡ before = front.is ∙ append-nil before in
     record {
       sound = (
-        subst (λ z. IsSound (length before + 1) (keys_of (named_products 1 z)) record { defines = false; bytes = name_text listed t } (closing (written_name listed 1 t)))
+        subst (λ z. IsSound (length before + 1) (keys_of (named_products 1 z))
+            record { defines = false; bytes = name_text listed t } (closing (written_name listed 1 t)))
             all (sound-term listed (length before + 1) t front.fits there),
         tt,
       );
@@ -283,22 +305,33 @@ AreRead-lines limit listed before (multiply l r ∷ us) t follows front there =
     let terms = named_products 1 before in
     let left = written_name listed (left_place k) l in
     let right = written_name listed (right_place listed k l) r in
-    let left_is : meaning terms left ≡ l = meaning-name listed before (u ∷ us) (left_place k) l front follows.0.left in
-    let right_is : meaning terms right ≡ r = meaning-name listed before (u ∷ us) (right_place listed k l) r front follows.0.right in
-    let next : StartsWith listed (before ++ (u ∷ [])) us = record { is = front.is ∙ sym (append_assoc before (u ∷ []) us); fits = front.fits } in
+    let left_is : meaning terms left ≡ l =
+    meaning-name listed before (u ∷ us) (left_place k) l front follows.0.left in
+    let right_is : meaning terms right ≡ r =
+    meaning-name listed before (u ∷ us) (right_place listed k l) r front follows.0.right in
+    let next : StartsWith listed (before ++ (u ∷ [])) us =
+    record { is = front.is ∙ sym (append_assoc before (u ∷ []) us); fits = front.fits } in
     let more = AreRead-lines limit listed (before ++ (u ∷ [])) us t follows.1 next there in
     let size : length (before ++ (u ∷ [])) ≡ k = length-append before (u ∷ []) ∙ omega arith in
     let named : named_products 1 (before ++ (u ∷ [])) ≡ terms ++ ((number_name k, u) ∷ []) =
     named_products-push 1 before u ∙ ap (λ n. terms ++ ((number_name n, u) ∷ [])) (omega arith) in
-    let rest : AreRead (k + 1) (terms ++ ((number_name k, u) ∷ [])) (line_texts listed (k + 1) us t) (written_lines listed (k + 1) us t) us t =
-    subst (λ z. AreRead (k + 1) z (line_texts listed (k + 1) us t) (written_lines listed (k + 1) us t) us t) named
-    (subst (λ n. AreRead (n + 1) (named_products 1 (before ++ (u ∷ []))) (line_texts listed (n + 1) us t) (written_lines listed (n + 1) us t) us t) size more) in
+    let rest : AreRead (k + 1) (terms ++ ((number_name k, u) ∷ [])) (line_texts listed (k + 1) us t)
+    (written_lines listed (k + 1) us t) us t =
+    subst (λ z. AreRead (k + 1) z (line_texts listed (k + 1) us t) (written_lines listed (k + 1) us t) us t)
+    named
+    (subst (λ n. AreRead (n + 1) (named_products 1 (before ++ (u ∷ []))) (line_texts listed (n + 1) us t)
+    (written_lines listed (n + 1) us t) us t) size more) in
     AreRead-more k terms (line_texts listed (k + 1) us t) (written_lines listed (k + 1) us t) us t u
     (product_text listed k u) (number_name k) (times left right)
     (some-texts listed (k + 1) us t)
     (sound-product limit listed before us l r front follows.0)
     (λ i. multiply (left_is i) (right_is i))
-    (rw (requests-name terms listed (left_place k) l, requests-name terms listed (right_place listed k l) r, left_is, right_is) refl)
+    (rw (
+      requests-name terms listed (left_place k) l,
+      requests-name terms listed (right_place listed k l) r,
+      left_is,
+      right_is,
+    ) refl)
     rest
 
 -- ---- Requests ----
@@ -313,7 +346,8 @@ ask_all-Follows before [] follows few = ap (λ z. answered (variable ∷ z)) (sy
 ask_all-Follows before (variable ∷ us) follows few = absurd follows.0
 ask_all-Follows before (multiply l r ∷ us) follows few =
     let u = multiply l r in
-    let size : length (before ++ (u ∷ us)) ≡ length before + suc (length us) = length-append before (u ∷ us) in
+    let size : length (before ++ (u ∷ us)) ≡ length before + suc (length us) =
+    length-append before (u ∷ us) in
     let all : (before ++ (u ∷ [])) ++ us ≡ before ++ (u ∷ us) = append_assoc before (u ∷ []) us in
     let here : ask (variable ∷ before) u ≡ answered (variable ∷ (before ++ (u ∷ []))) =
     ask-new (variable ∷ before) u follows.0.absent follows.0.low (omega arith) in
@@ -328,12 +362,14 @@ pub IsTermFile-listing
     : (t : Term)
     → height t ≤ MAX_HEIGHT
     → length (distinct_products t) ≤ MAX_NODES
-    → IsTermFile 1 (lines_of (listing_text t)) (variable ∷ distinct_products t) (length (distinct_products t)) None
+    → IsTermFile 1 (lines_of (listing_text t)) (variable ∷ distinct_products t) (length (distinct_products t))
+    None
 IsTermFile-listing t low few =
     let all = distinct_products t in
     let follows = Follows-distinct MAX_HEIGHT t low in
     let lines = lines_of-listing MAX_HEIGHT t low (omega arith) in
-    let file = AreRead-lines MAX_HEIGHT all [] all t follows record { is = refl; fits = omega arith } (IsThere-distinct t) in
+    let file = AreRead-lines MAX_HEIGHT all [] all t follows record { is = refl; fits = omega arith }
+    (IsThere-distinct t) in
     rw lines record {
       read = written_lines all 1 all t;
       enough = some-texts all 1 all t;

@@ -1,7 +1,7 @@
 -- The different products of a term.
 --
--- Terms that are there aren't added again (`add_new-there`). A list that with each term has the products of it
--- gains nothing by them (`add_new-listed`), and stays so where those of another term are added
+-- Terms that are there aren't added again (`add_new-there`). A list that with each term has the products of
+-- it gains nothing by them (`add_new-listed`), and stays so where those of another term are added
 -- (`IsClosed-add_new`): then first come those of its parts, and last itself (`add_new-product`).
 use Rattle.std.proofs.Common.{◌≡◌, ℕ, ◌≤◌, ◌⊎◌, inl, inr, true, false, if◌then◌else◌, List, [], ◌∷◌, ◌++◌, refl, sym, ap, ◌∙◌, subst, true≢false, arith}
 use Rattle.std.proofs.Math.Nat.{le-max_left, le-max_right}
@@ -94,7 +94,10 @@ add_new-append listed [] ys = refl
 add_new-append listed (x ∷ xs) ys = add_new-append (with_new listed x) xs ys
 
 -- a term that isn't there is put behind the others
-pub add_new-one : (listed : List Term) (t : Term) → has_term t listed ≡ false → add_new listed (t ∷ []) ≡ listed ++ t ∷ []
+pub add_new-one
+    : (listed : List Term) (t : Term)
+    → has_term t listed ≡ false
+    → add_new listed (t ∷ []) ≡ listed ++ t ∷ []
 add_new-one listed t absent = rw absent refl
 
 -- what is there stays
@@ -103,7 +106,8 @@ pub add_new-keeps
     → has_term u listed ≡ true
     → has_term u (add_new listed ts) ≡ true
 add_new-keeps u listed [] there = there
-add_new-keeps u listed (t ∷ ts) there = add_new-keeps u (with_new listed t) ts (with_new-keeps u t listed there)
+add_new-keeps u listed (t ∷ ts) there =
+    add_new-keeps u (with_new listed t) ts (with_new-keeps u t listed there)
 
 -- each term is there afterwards
 pub add_new-has
@@ -113,7 +117,8 @@ pub add_new-has
 add_new-has u listed [] among = absurd (true≢false (sym among))
 add_new-has u listed (t ∷ ts) among = elim (cases_Bool (same_term u t)) [
   | inl one ↦
-      let there = subst (λ z. has_term z (with_new listed t) ≡ true) (sym (same_term-true u t one)) (with_new-has t listed) in
+      let there = subst (λ z. has_term z (with_new listed t) ≡ true) (sym (same_term-true u t one))
+      (with_new-has t listed) in
       add_new-keeps u (with_new listed t) ts there
   | inr other ↦ add_new-has u (with_new listed t) ts (rw other at among)
 ]
@@ -208,7 +213,8 @@ products-above_left t u = elim (cases_Bool (has_term (multiply t u) (products t)
 -- nor of its right part
 products-above_right : (t u : Term) → has_term (multiply t u) (products u) ≡ false
 products-above_right t u = elim (cases_Bool (has_term (multiply t u) (products u))) [
-  | inl among ↦ absurd (omega (arith, products-low (multiply t u) u among, le-max_right (height t) (height u)))
+  | inl among ↦
+      absurd (omega (arith, products-low (multiply t u) u among, le-max_right (height t) (height u)))
   | inr absent ↦ absent
 ]
 
@@ -245,7 +251,10 @@ pub IsClosed-nil : IsClosed []
 IsClosed-nil = record { has = λ t u there among. absurd (true≢false (sym there)) }
 
 -- it stays so where the products of a term are added
-pub IsClosed-add_new : (listed : List Term) (t : Term) → IsClosed listed → IsClosed (add_new listed (products t))
+pub IsClosed-add_new
+    : (listed : List Term) (t : Term)
+    → IsClosed listed
+    → IsClosed (add_new listed (products t))
 IsClosed-add_new listed t closed = record {
   has = λ s u there among. elim (add_new-from s listed (products t) there) [
     | inl old ↦ add_new-keeps u listed (products t) (closed.has s u old among)
@@ -259,7 +268,8 @@ pub add_new-listed
     → IsClosed listed
     → has_term t listed ≡ true
     → add_new listed (products t) ≡ listed
-add_new-listed listed t closed there = add_new-there listed (products t) (λ u among. closed.has t u there among)
+add_new-listed listed t closed there =
+    add_new-there listed (products t) (λ u among. closed.has t u there among)
 
 -- a product that isn't listed isn't where the products of its parts are added
 pub parts-absent
@@ -324,7 +334,8 @@ pub root-listed
     → has_term s (products (term_at made n)) ≡ true
     → has_term s (distinct_products (term_at made root)) ≡ true
 root-listed made n root one s among =
-    distinct_products-has s (term_at made root) (subst (λ z. has_term s (products (term_at made z)) ≡ true) one among)
+    distinct_products-has s (term_at made root)
+    (subst (λ z. has_term s (products (term_at made z)) ≡ true) one among)
 
 -- the products of the left part of one of them are among them
 pub listed-left
@@ -349,7 +360,8 @@ listed-right s t u there r among =
 -- whether terms are one is an equivalence
 pub same_term-IsEquivalence : IsEquivalence same_term
 same_term-IsEquivalence =
-    decided same_term (λ t u. (same_term-true t u, λ one. subst (λ z. same_term t z ≡ true) one (same_term-self t)))
+    decided same_term
+    (λ t u. (same_term-true t u, λ one. subst (λ z. same_term t z ≡ true) one (same_term-self t)))
 
 -- terms that are added differ from those that are there
 IsDistinct-add_new
@@ -357,7 +369,8 @@ IsDistinct-add_new
     → IsDistinct same_term listed
     → IsDistinct same_term (add_new listed ts)
 IsDistinct-add_new listed [] distinct = distinct
-IsDistinct-add_new listed (t ∷ ts) distinct = IsDistinct-add_new (with_new listed t) ts (one (cases_Bool (has_term t listed)))
+IsDistinct-add_new listed (t ∷ ts) distinct =
+    IsDistinct-add_new (with_new listed t) ts (one (cases_Bool (has_term t listed)))
   where
     one : (has_term t listed ≡ true) ⊎ (has_term t listed ≡ false) → IsDistinct same_term (with_new listed t)
     one (inl known) = rw known distinct

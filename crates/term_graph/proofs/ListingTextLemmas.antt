@@ -58,12 +58,16 @@ list_all-decimal p each k fits = all (decimal k) (AllDigits-decimal k fits)
 -- a number's name is one
 is_name-number : (k : ℕ) → k < 2 ^ 64 → is_name (number_name k) ≡ true
 is_name-number k fits =
-    let short = lt-ltb (length (decimal k)) 32 (omega (arith, length-decimal-le_wide 20 k (omega arith) (omega arith) (omega arith))) in
+    let short = lt-ltb (length (decimal k)) 32
+    (omega (arith, length-decimal-le_wide 20 k (omega arith) (omega arith) (omega arith))) in
     let digits = list_all-decimal is_name_byte digit-name k fits in
     rw (short, digits) refl
 
 -- so it is read as a name
-run_token-number : (k place : ℕ) → k < 2 ^ 64 → run_token false (number_name k) place ≡ name (number_name k) place
+run_token-number
+    : (k place : ℕ)
+    → k < 2 ^ 64
+    → run_token false (number_name k) place ≡ name (number_name k) place
 run_token-number k place fits = rw (is_name-number k fits) refl
 
 -- the number of a term is at most one above those that are listed
@@ -76,7 +80,8 @@ number_in-le listed t = omega (arith, prefix_len-le-length (λ u. not (same_term
 abbrev pub product_text : List Term → ℕ → Term → List ℕ
 product_text listed k variable = []
 product_text listed k (multiply l r) =
-    number_name k ++ (codes " = (" ++ (name_text listed l ++ (codes "*" ++ (name_text listed r ++ codes ")"))))
+    number_name k
+    ++ (codes " = (" ++ (name_text listed l ++ (codes "*" ++ (name_text listed r ++ codes ")"))))
 
 -- The texts of the lines from that of a product on.
 abbrev pub line_texts : List Term → ℕ → List Term → Term → List (List ℕ)
@@ -93,7 +98,10 @@ HasNoLf-inner text inner k within = λ lf.
     true≢false (sym inner ∙ list_all_at is_inner text k 0 within (ap is_inner lf))
 
 -- a name has no LF
-inner-name : (listed : List Term) (t : Term) → length listed + 1 < 2 ^ 64 → list_all is_inner (name_text listed t) ≡ true
+inner-name
+    : (listed : List Term) (t : Term)
+    → length listed + 1 < 2 ^ 64
+    → list_all is_inner (name_text listed t) ≡ true
 inner-name listed variable fits = refl
 inner-name listed (multiply l r) fits =
     list_all-decimal is_inner digit-inner (number_in listed (multiply l r))
@@ -140,7 +148,8 @@ listing-texts limit before listed k (variable ∷ us) t follows = absurd follows
 listing-texts limit before listed k (multiply l r ∷ us) t follows =
     let product = product_line listed k (multiply l r) in
     append_assoc product (product_lines listed (k + 1) us) (line (name_text listed t))
-    ∙ ap (λ z. product ++ z) (listing-texts limit (before ++ (multiply l r ∷ [])) listed (k + 1) us t follows.1)
+    ∙ ap (λ z. product ++ z)
+    (listing-texts limit (before ++ (multiply l r ∷ [])) listed (k + 1) us t follows.1)
 
 -- the lines of a listing are those of the products and that of the term
 pub lines_of-listing
@@ -202,16 +211,22 @@ HasTokens-run
     → list_all is_name_byte (first ∷ run) ≡ true
     → EndsRun bytes
     → HasTokens bytes tokens
-    → HasTokens (first ∷ (run ++ bytes)) (λ place. run_token false (first ∷ run) place ∷ tokens (place + 1 + length run))
+    → HasTokens (first ∷ (run ++ bytes))
+    (λ place. run_token false (first ∷ run) place ∷ tokens (place + 1 + length run))
 unfolding lex
 HasTokens-run first run bytes tokens passes ends behind place =
     let (one, rest) = and_parts (is_name_byte first) (list_all is_name_byte run) passes in
-    let size : 1 + prefix_len is_name_byte (run ++ bytes) ≡ length (first ∷ run) = omega (arith, prefix-run run bytes rest ends) in
-    let token : run_token false (take (1 + prefix_len is_name_byte (run ++ bytes)) (first ∷ (run ++ bytes))) place
+    let size : 1 + prefix_len is_name_byte (run ++ bytes) ≡ length (first ∷ run) =
+    omega (arith, prefix-run run bytes rest ends) in
+    let token : run_token false (take (1 + prefix_len is_name_byte (run ++ bytes)) (first ∷ (run ++ bytes)))
+    place
     ≡ run_token false (first ∷ run) place =
-    ap (λ z. run_token false z place) (ap (λ n. take n (first ∷ (run ++ bytes))) size ∙ take-append_seam (first ∷ run) bytes) in
+    ap (λ z. run_token false z place)
+    (ap (λ n. take n (first ∷ (run ++ bytes))) size ∙ take-append_seam (first ∷ run) bytes) in
     let more : tokens_of (lex false true (place + 1) (run ++ bytes)) ≡ tokens (place + 1 + length run) =
-    ap tokens_of (lex-run false (place + 1) (run ++ bytes) ∙ rw (prefix-run run bytes rest ends, drop-append_seam run bytes) refl)
+    ap tokens_of
+    (lex-run false (place + 1) (run ++ bytes)
+    ∙ rw (prefix-run run bytes rest ends, drop-append_seam run bytes) refl)
     ∙ behind (place + 1 + length run) in
     rw one (λ i. token i ∷ more i)
 
@@ -234,7 +249,8 @@ right_place listed k l = left_place k + length (name_text listed l) + 1
 abbrev pub written_line : List Term → ℕ → Term → Line
 written_line listed k variable = closing leaf
 written_line listed k (multiply l r) =
-    definition (number_name k) 1 (times (written_name listed (left_place k) l) (written_name listed (right_place listed k l) r))
+    definition (number_name k) 1
+    (times (written_name listed (left_place k) l) (written_name listed (right_place listed k l) r))
 
 -- the token of a term's name
 HasTokens-name
@@ -242,7 +258,8 @@ HasTokens-name
     → length listed + 1 < 2 ^ 64
     → EndsRun bytes
     → HasTokens bytes tokens
-    → HasTokens (name_text listed t ++ bytes) (λ place. atom_tokens (written_name listed place t) ++ tokens (place + length (name_text listed t)))
+    → HasTokens (name_text listed t ++ bytes)
+    (λ place. atom_tokens (written_name listed place t) ++ tokens (place + length (name_text listed t)))
 HasTokens-name listed variable bytes tokens fits ends behind place =
     let at : place + 1 + 0 ≡ place + 1 = omega arith in
     HasTokens-run 120 [] bytes tokens refl ends behind place ∙ ap (λ n. variable_token ∷ tokens n) at
@@ -250,7 +267,8 @@ HasTokens-name listed (multiply l r) bytes tokens fits ends behind place =
     let n = number_in listed (multiply l r) in
     let low : n < 2 ^ 64 = omega (arith, number_in-le listed (multiply l r)) in
     let at : place + 1 + length (decimal n) ≡ place + length (number_name n) = omega arith in
-    HasTokens-run 116 (decimal n) bytes tokens (list_all-decimal is_name_byte digit-name n low) ends behind place
+    HasTokens-run 116 (decimal n) bytes tokens (list_all-decimal is_name_byte digit-name n low) ends behind
+    place
     ∙ rw (run_token-number n place low, at) refl
 
 -- the tokens of the line of a product
@@ -259,7 +277,9 @@ tokens-product
     → k < 2 ^ 64
     → length listed + 1 < 2 ^ 64
     → tokens_of (lex false false 1 (product_text listed k (multiply l r)))
-    ≡ name (number_name k) 1 ∷ (equals ∷ atom_tokens (times (written_name listed (left_place k) l) (written_name listed (right_place listed k l) r)))
+    ≡ name (number_name k) 1 ∷
+    (equals ∷ atom_tokens
+    (times (written_name listed (left_place k) l) (written_name listed (right_place listed k l) r)))
 tokens-product listed k l r low fits =
     let close = HasTokens-byte 41 [] (λ place. []) refl refl HasTokens-nil in
     let right = HasTokens-name listed r (41 ∷ []) _ fits refl close in
@@ -267,7 +287,8 @@ tokens-product listed k l r low fits =
     let left = HasTokens-name listed l (42 ∷ (name_text listed r ++ (41 ∷ []))) _ fits refl middle in
     let opened = HasTokens-space _ _ (HasTokens-byte 40 _ _ refl refl left) in
     let equal = HasTokens-space _ _ (HasTokens-byte 61 _ _ refl refl opened) in
-    let whole = HasTokens-run 116 (decimal k) _ _ (list_all-decimal is_name_byte digit-name k low) refl equal 1 in
+    let whole = HasTokens-run 116 (decimal k) _ _ (list_all-decimal is_name_byte digit-name k low) refl equal
+    1 in
     let at : 1 + 1 + length (decimal k) + 1 + 1 + 1 + 1 ≡ left_place k = omega arith in
     whole ∙ rw (run_token-number k 1 low, at) refl
 
@@ -276,8 +297,10 @@ pub Says-product
     : (listed : List Term) (k : ℕ) (l r : Term)
     → k < 2 ^ 64
     → length listed + 1 < 2 ^ 64
-    → Says record { defines = true; bytes = product_text listed k (multiply l r) } (written_line listed k (multiply l r))
-Says-product listed k l r low fits = record { term = _; whole = tokens-product listed k l r low fits; text = atom refl }
+    → Says record { defines = true; bytes = product_text listed k (multiply l r) }
+    (written_line listed k (multiply l r))
+Says-product listed k l r low fits =
+    record { term = _; whole = tokens-product listed k l r low fits; text = atom refl }
 
 -- the last line says the term
 pub Says-term

@@ -1,8 +1,8 @@
 -- How a listing is made.
 --
 -- Nothing is where a term is listed (`begun-listed`); where it isn't,
--- its product is put behind those of its parts (`product-listed`, `product-begun`). With all products of a term
--- the listing is whole (`begun-whole`).
+-- its product is put behind those of its parts (`product-listed`, `product-begun`). With all products of a
+-- term the listing is whole (`begun-whole`).
 use Rattle.std.proofs.Common.{◌≡◌, ℕ, ◌+◌, ◌<◌, ◌≤◌, inl, inr, false, List, [], ◌∷◌, ◌++◌, All, length, length-append, map, take, drop, slice_set, slice_index_or, sym, ap, ◌∙◌, subst, true≢false, arith}
 use Rattle.std.proofs.Math.Seq.{take-append_seam}
 use Rattle.std.proofs.lemmas.Bool.{cases_Bool, cases_lt}
@@ -17,7 +17,8 @@ use Rattle.term_graph.proofs.ListingLemmas.{add_new-listed, parts-absent, add_ne
 use Rattle.term_graph.proofs.ProductLemmas.{distinct_products-few}
 use Rattle.term_graph.proofs.PlaceLemmas.{number-has_term, has_term-number, placed-number, number-placed, IsPlaced-few, IsPlaced-push}
 
-module _ (made : List Term) (numbers places : List ℕ) (begun : IsBegun made numbers places) (a : ℕ) (within : a < length made) where
+module _ (made : List Term) (numbers places : List ℕ) (begun : IsBegun made numbers places) (a : ℕ)
+    (within : a < length made) where
   begun-each : (k : ℕ) → k < length numbers → slice_index_or numbers k 0 < length made
   begun-each k low = omega (arith, begun.placed.within k low, begun.room)
 
@@ -27,7 +28,8 @@ module _ (made : List Term) (numbers places : List ℕ) (begun : IsBegun made nu
       → map (term_at made) numbers ≡ add_new (map (term_at made) numbers) (products (term_at made a))
   begun-listed above =
       let at = placed-number numbers places a begun.placed (omega (arith, within, begun.room)) above in
-      sym (add_new-listed (map (term_at made) numbers) (term_at made a) begun.closed (number-has_term made numbers a at))
+      sym (add_new-listed (map (term_at made) numbers) (term_at made a) begun.closed
+      (number-has_term made numbers a at))
 
   -- a term of which the number has none isn't
   begun-absent : place_of places a ≡ 0 → has_term (term_at made a) (map (term_at made) numbers) ≡ false
@@ -62,11 +64,13 @@ module _
 
   -- it isn't there before
   product-absent : has_term (multiply (term_at made l) (term_at made r)) terms ≡ false
-  product-absent = subst (λ z. has_term z terms ≡ false) product (begun-absent made old before begun a within none)
+  product-absent =
+      subst (λ z. has_term z terms ≡ false) product (begun-absent made old before begun a within none)
 
   -- the products of its parts are
   parts-listed
-      : map (term_at made) last ≡ add_new (add_new terms (products (term_at made l))) (products (term_at made r))
+      : map (term_at made) last
+      ≡ add_new (add_new terms (products (term_at made l))) (products (term_at made r))
   parts-listed = second ∙ ap (λ z. add_new z (products (term_at made r))) first
 
   -- then it is put
@@ -75,7 +79,8 @@ module _
       ap (map (term_at made)) pushed
       ∙ map-append (term_at made) last (a ∷ [])
       ∙ ap (λ z. z ++ term_at made a ∷ []) parts-listed
-      ∙ ap (λ z. add_new (add_new terms (products (term_at made l))) (products (term_at made r)) ++ z ∷ []) product
+      ∙ ap (λ z. add_new (add_new terms (products (term_at made l))) (products (term_at made r)) ++ z ∷ [])
+      product
       ∙ sym (add_new-product terms (term_at made l) (term_at made r) product-absent)
       ∙ ap (λ z. add_new terms (products z)) (sym product)
 
@@ -83,7 +88,8 @@ module _
   still-absent : has_term (term_at made a) (map (term_at made) last) ≡ false
   still-absent =
       ap (has_term (term_at made a)) parts-listed
-      ∙ ap (λ z. has_term z (add_new (add_new terms (products (term_at made l))) (products (term_at made r)))) product
+      ∙ ap (λ z. has_term z (add_new (add_new terms (products (term_at made l))) (products (term_at made r))))
+      product
       ∙ parts-absent terms (term_at made l) (term_at made r) product-absent
 
   product-placed : IsPlaced new (slice_set places a n)
@@ -91,7 +97,8 @@ module _
       let room : a < length places = omega (arith, within, done.room) in
       let next : n ≡ length last + 1 = omega (arith, count, ap length pushed, length-append last (a ∷ [])) in
       subst (λ z. IsPlaced z (slice_set places a n)) (sym pushed)
-      (IsPlaced-push last places a n done.placed room (begun-none made last places done a within still-absent) next)
+      (IsPlaced-push last places a n done.placed room (begun-none made last places done a within still-absent)
+      next)
 
   -- and its place is written
   pub product-begun : (at : ℕ) → at ≡ a → IsBegun made new (slice_set places at n)
@@ -121,29 +128,33 @@ pub begun-placed
     → IsPlaced numbers (take n (places ++ drop (length places) before))
 begun-placed made numbers places before n begun size =
     let whole : n ≡ length places = size ∙ sym begun.room in
-    subst (IsPlaced numbers) (sym (ap (λ z. take z (places ++ drop (length places) before)) whole ∙ take-append_seam places (drop (length places) before))) begun.placed
+    subst (IsPlaced numbers)
+    (sym (ap (λ z. take z (places ++ drop (length places) before)) whole
+    ∙ take-append_seam places (drop (length places) before))) begun.placed
 
 -- A listing of all products of a number.
 module _
     (made : List Term) (numbers places : List ℕ) (root : ℕ) (within : root < length made)
     (begun : IsBegun made numbers places) (none : List ℕ) (empty : none ≡ [])
-    (listed : map (term_at made) numbers ≡ add_new (map (term_at made) none) (products (term_at made root))) where
-  -- has the terms
-  begun-terms : map (term_at made) numbers ≡ distinct_products (term_at made root)
-  unfolding distinct_products
-  begun-terms = listed ∙ ap (λ z. add_new (map (term_at made) z) (products (term_at made root))) empty
+    (listed : map (term_at made) numbers ≡ add_new (map (term_at made) none) (products (term_at made root)))
+  where
+    -- has the terms
+    begun-terms : map (term_at made) numbers ≡ distinct_products (term_at made root)
+    unfolding distinct_products
+    begun-terms = listed ∙ ap (λ z. add_new (map (term_at made) z) (products (term_at made root))) empty
 
-  -- and the numbers
-  begun-within : All (λ n. n < length made) numbers
-  begun-within k d low =
-      omega (arith, get_or_default numbers k d 0 low, begun-each made numbers places begun root within k low)
+    -- and the numbers
+    begun-within : All (λ n. n < length made) numbers
+    begun-within k d low =
+        let each = begun-each made numbers places begun root within k low in
+        omega (arith, get_or_default numbers k d 0 low, each)
 
-  -- so it is whole
-  pub begun-whole : IsListing made root numbers
-  begun-whole = record { root_within = within; within = begun-within; terms = begun-terms }
+    -- so it is whole
+    pub begun-whole : IsListing made root numbers
+    begun-whole = record { root_within = within; within = begun-within; terms = begun-terms }
 
-  -- and has no more numbers than a graph may have products
-  pub begun-few : length numbers ≤ MAX_NODES
-  begun-few =
-      let few = distinct_products-few made begun.graph root within in
-      omega (arith, few, begun.graph.few, length-map numbers (term_at made), ap length begun-terms)
+    -- and has no more numbers than a graph may have products
+    pub begun-few : length numbers ≤ MAX_NODES
+    begun-few =
+        let few = distinct_products-few made begun.graph root within in
+        omega (arith, few, begun.graph.few, length-map numbers (term_at made), ap length begun-terms)

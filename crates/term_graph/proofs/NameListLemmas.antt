@@ -1,5 +1,5 @@
 -- Names of terms, and the map that has their numbers.
-use Rattle.std.proofs.Common.{◌≡◌, ℕ, false, List, [], ◌∷◌, Option, Some, None, is_some, refl, true≢false}
+use Rattle.std.proofs.Common.{◌≡◌, ℕ, List, [], ◌∷◌, refl}
 use Rattle.std.specs.Map.{lookup}
 use Rattle.wb_base.proofs.NameLemmas.{same_name, same_name-bytes}
 use Rattle.term_graph.specs.NameLists.{number_of}
@@ -10,8 +10,3 @@ pub number_of-lookup
     → lookup (same_name name) names ≡ number_of name names
 number_of-lookup name [] = refl
 number_of-lookup name (own ∷ names) = rw (same_name-bytes name own.0, number_of-lookup name names) refl
-
--- an option that has nothing
-pub is_some-None : (o : Option ℕ) → is_some o ≡ false → o ≡ None
-is_some-None None is = refl
-is_some-None (Some x) is = absurd (true≢false is)

@@ -1,7 +1,7 @@
 -- The places of the numbers of a listing.
 --
--- A number that isn't listed yet is put behind the others (`IsPlaced-push`). In the whole listing the place of a
--- number is that of its term (`place-number_in`).
+-- A number that isn't listed yet is put behind the others (`IsPlaced-push`). In the whole listing the place
+-- of a number is that of its term (`place-number_in`).
 use Rattle.std.proofs.Common.{◌≡◌, ℕ, zero, suc, ◌+◌, ◌-◌, ◌<◌, ◌≤◌, inl, inr, ◌||◌, true, not, nat_eq, List, [], ◌∷◌, ◌++◌, length, length-append, map, get_or, slice_set, slice_index_or, refl, sym, ap, ◌∙◌, subst, true≢false, arith}
 use Rattle.std.proofs.Math.Bool.{or-true}
 use Rattle.std.proofs.lemmas.Bool.{cases_eq, cases_lt, eq-eqb, not-false, not_from_true}
@@ -117,7 +117,8 @@ placed-each numbers places (suc k) placed low =
 -- so they are no more than there are places
 pub IsPlaced-few : (numbers places : List ℕ) → IsPlaced numbers places → length numbers ≤ length places
 IsPlaced-few numbers places placed =
-    let few = le-length_from_below (0 ∷ places) (length numbers + 1) (λ q low. placed-each numbers places q placed low) in
+    let few = le-length_from_below (0 ∷ places) (length numbers + 1)
+    (λ q low. placed-each numbers places q placed low) in
     omega (arith, few)
 
 -- A number that isn't listed is put behind the others.
@@ -148,7 +149,8 @@ module _
 
   -- an old number isn't the new one
   apart : (k : ℕ) → k < length numbers → slice_index_or numbers k 0 ≡ a → ⊥
-  apart k low one = let place = ap (place_of places) one in absurd (omega (arith, place, none, placed.place k low))
+  apart k low one = let place =
+      ap (place_of places) one in absurd (omega (arith, place, none, placed.place k low))
 
   push-within : (k : ℕ) → k < length more → slice_index_or more k 0 < length next
   push-within k low =
@@ -215,7 +217,8 @@ module _ (made : List Term) (root : ℕ) (numbers : List ℕ) (listing : IsListi
       : (k : ℕ)
       → k < length numbers
       → get_or (distinct_products (term_at made root)) k variable ≡ term_at made (slice_index_or numbers k 0)
-  listing-at k low = ap (λ z. get_or z k variable) (sym listing.terms) ∙ map-term_at made numbers k variable low
+  listing-at k low =
+      ap (λ z. get_or z k variable) (sym listing.terms) ∙ map-term_at made numbers k variable low
 
   -- the term of a listed number is listed
   pub listing-has
@@ -227,10 +230,16 @@ module _ (made : List Term) (root : ℕ) (numbers : List ℕ) (listing : IsListi
       ∙ number-has_term made numbers (slice_index_or numbers k 0) (record { at = k; within = low; is = refl })
 
   -- it is no variable
-  pub listing-product : (k n : ℕ) → k < length numbers → n ≡ slice_index_or numbers k 0 → term_at made n ≡ variable → ⊥
+  pub listing-product
+      : (k n : ℕ)
+      → k < length numbers
+      → n ≡ slice_index_or numbers k 0
+      → term_at made n ≡ variable
+      → ⊥
   listing-product k n low here is =
       let there = listing-has k low in
-      let one = subst (λ z. has_term (term_at made z) (distinct_products (term_at made root)) ≡ true) (sym here) there in
+      let one = subst (λ z. has_term (term_at made z) (distinct_products (term_at made root)) ≡ true)
+      (sym here) there in
       products-variable (term_at made root) (distinct_products-from variable (term_at made root)
       (subst (λ z. has_term z (distinct_products (term_at made root)) ≡ true) is one))
 
@@ -252,7 +261,8 @@ module _
 
   -- so it has a place
   pub listed-room : a < length places
-  listed-room = subst (λ z. z < length places) listed-number.is (placed.within listed-number.at listed-number.within)
+  listed-room =
+      subst (λ z. z < length places) listed-number.is (placed.within listed-number.at listed-number.within)
 
   abbrev front : ℕ
   front = prefix_len (λ u. not (same_term (term_at made a) u)) listed
@@ -262,9 +272,13 @@ module _
   front-low = elim (cases_lt listed-number.at front) [
     | inr low ↦ low
     | inl above ↦
-        let passes = prefix_len_passes (λ u. not (same_term (term_at made a) u)) listed listed-number.at variable above in
-        let one = listing-at made root numbers listing listed-number.at listed-number.within ∙ ap (term_at made) listed-number.is in
-        let same : same_term (term_at made a) (get_or listed listed-number.at variable) ≡ true = subst (λ z. same_term (term_at made a) z ≡ true) (sym one) (same_term-self (term_at made a)) in
+        let passes =
+        prefix_len_passes (λ u. not (same_term (term_at made a) u)) listed listed-number.at variable
+        above in
+        let one = listing-at made root numbers listing listed-number.at listed-number.within
+        ∙ ap (term_at made) listed-number.is in
+        let same : same_term (term_at made a) (get_or listed listed-number.at variable) ≡ true =
+        subst (λ z. same_term (term_at made a) z ≡ true) (sym one) (same_term-self (term_at made a)) in
         absurd (true≢false (sym passes ∙ not_from_true _ same))
   ]
 
@@ -274,10 +288,16 @@ module _
     | inr above ↦ omega (arith, above, front-low)
     | inl below ↦
         let low : front < length numbers = omega (arith, below, listed-number.within) in
-        let stops = prefix_len_stops (λ u. not (same_term (term_at made a) u)) listed variable (omega (arith, low, listing-length made root numbers listing)) in
+        let stops = prefix_len_stops (λ u. not (same_term (term_at made a) u)) listed variable
+        (omega (arith, low, listing-length made root numbers listing)) in
         let same = same_term-true (term_at made a) (get_or listed front variable) (not-false _ stops) in
-        let one = graph.different (slice_index_or numbers front 0) a (listing.within front 0 low) within (sym (same ∙ listing-at made root numbers listing front low)) in
-        omega (arith, numbers-apart numbers places front listed-number.at placed low listed-number.within (one ∙ sym listed-number.is))
+        let one = graph.different (slice_index_or numbers front 0) a (listing.within front 0 low) within
+        (sym (same ∙ listing-at made root numbers listing front low)) in
+        omega (
+          arith,
+          numbers-apart numbers places front listed-number.at placed low listed-number.within
+              (one ∙ sym listed-number.is),
+        )
   ]
 
   -- the place of the number is that of its term
@@ -293,4 +313,5 @@ pub found-place
     → at ≡ a
     → a < length places
     → x ≡ place_of places a
-found-place places x at a is here low = is ∙ ap (λ z. get_or places z x) here ∙ get_or_default places a x 0 low
+found-place places x at a is here low =
+    is ∙ ap (λ z. get_or places z x) here ∙ get_or_default places a x 0 low

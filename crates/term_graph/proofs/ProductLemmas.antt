@@ -28,12 +28,18 @@ module _ (made : List Term) (graph : IsGraph made) where
       let parts = graph.parts (suc n) (omega arith) within in
       let left = term_at made parts.left in
       let right = term_at made parts.right in
-      let one : has_term s (products (multiply left right)) ≡ true = subst (λ z. has_term s (products z) ≡ true) parts.product among in
+      let one : has_term s (products (multiply left right)) ≡ true =
+      subst (λ z. has_term s (products z) ≡ true) parts.product among in
       elim (products-either s left right one) [
-        | inl before ↦ products-below most parts.left s (omega (arith, parts.left_before, low)) (omega (arith, parts.left_before, within)) before
+        | inl before ↦
+            products-below most parts.left s (omega (arith, parts.left_before, low))
+            (omega (arith, parts.left_before, within)) before
         | inr later ↦ elim later [
-          | inl after ↦ products-below most parts.right s (omega (arith, parts.right_before, low)) (omega (arith, parts.right_before, within)) after
-          | inr self ↦ subst (λ z. has_term z made ≡ true) (parts.product ∙ sym self) (has_term-at made (suc n) within)
+          | inl after ↦
+              products-below most parts.right s (omega (arith, parts.right_before, low))
+              (omega (arith, parts.right_before, within)) after
+          | inr self ↦
+              subst (λ z. has_term z made ≡ true) (parts.product ∙ sym self) (has_term-at made (suc n) within)
         ]
       ]
 
@@ -51,10 +57,12 @@ module _ (made : List Term) (graph : IsGraph made) where
       → n < length made
       → has_term s (distinct_products (term_at made n) ++ variable ∷ []) ≡ true
       → has_term s made ≡ true
-  listed-there n s within among = elim (has_term-either s (distinct_products (term_at made n)) (variable ∷ []) among) [
-    | inl listed ↦ products-there n s within (distinct_products-from s (term_at made n) listed)
-    | inr one ↦ subst (λ z. has_term z made ≡ true) (graph.first ∙ sym (has_term-one s variable one)) (has_term-at made 0 graph.some)
-  ]
+  listed-there n s within among =
+      elim (has_term-either s (distinct_products (term_at made n)) (variable ∷ []) among) [
+        | inl listed ↦ products-there n s within (distinct_products-from s (term_at made n) listed)
+        | inr one ↦ subst (λ z. has_term z made ≡ true) (graph.first ∙ sym (has_term-one s variable one))
+            (has_term-at made 0 graph.some)
+      ]
 
   -- the variable is none of the different products
   variable-apart : (t : Term) → has_term variable (distinct_products t) ≡ false
@@ -70,7 +78,10 @@ module _ (made : List Term) (graph : IsGraph made) where
       → length (distinct_products (term_at made n)) ≤ product_count made
   distinct_products-few n within =
       let t = term_at made n in
-      let distinct = IsDistinct-push same_term-IsEquivalence (distinct_products t) variable (IsDistinct-distinct_products t) (variable-apart t) in
-      let few = length-le_from_is_member same_term-IsEquivalence (distinct_products t ++ variable ∷ []) made distinct
+      let distinct =
+      IsDistinct-push same_term-IsEquivalence (distinct_products t) variable
+      (IsDistinct-distinct_products t) (variable-apart t) in
+      let few = length-le_from_is_member same_term-IsEquivalence (distinct_products t ++ variable ∷ []) made
+      distinct
       (λ s among. listed-there n s within among) in
       omega (arith, few, length-append (distinct_products t) (variable ∷ []))

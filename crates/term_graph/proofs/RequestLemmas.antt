@@ -36,8 +36,13 @@ length-front old new n (more, is) below =
     omega (arith, whole)
 
 -- a number of a front stands for its term
-pub term_at-front : (old new : List Term) (n : ℕ) → IsFront old new → n < length old → term_at new n ≡ term_at old n
-term_at-front old new n (more, is) below = ap (λ z. term_at z n) is ∙ get_or_append_left old more variable n below
+pub term_at-front
+    : (old new : List Term) (n : ℕ)
+    → IsFront old new
+    → n < length old
+    → term_at new n ≡ term_at old n
+term_at-front old new n (more, is) below =
+    ap (λ z. term_at z n) is ∙ get_or_append_left old more variable n below
 
 -- so do the numbers of a list
 pub terms-front
@@ -48,7 +53,8 @@ pub terms-front
 terms-front old new [] front within = refl
 terms-front old new (n ∷ numbers) front within =
     let here : term_at new n ≡ term_at old n = term_at-front old new n front within.0 in
-    let rest : map (term_at new) numbers ≡ map (term_at old) numbers = terms-front old new numbers front within.1 in
+    let rest : map (term_at new) numbers ≡ map (term_at old) numbers =
+    terms-front old new numbers front within.1 in
     rw (here, rest) refl
 
 -- a listing stays one
@@ -61,7 +67,8 @@ IsListing-front old new root numbers front listing = record {
   root_within = length-front old new root front listing.root_within;
   within = λ k d within. length-front old new _ front (listing.within k d within);
   terms =
-      terms-front old new numbers front (recursion_from_All (λ (n : ℕ). n < length old) numbers listing.within)
+      terms-front old new numbers front
+      (recursion_from_All (λ (n : ℕ). n < length old) numbers listing.within)
       ∙ listing.terms
       ∙ ap distinct_products (sym (term_at-front old new root front listing.root_within));
 }
@@ -81,7 +88,8 @@ named_terms-recursion
 named_terms-recursion old new [] front within = refl
 named_terms-recursion old new (own ∷ names) front within =
     let here : term_at new own.1 ≡ term_at old own.1 = term_at-front old new own.1 front within.0 in
-    let rest : named_terms new names ≡ named_terms old names = named_terms-recursion old new names front within.1 in
+    let rest : named_terms new names ≡ named_terms old names =
+    named_terms-recursion old new names front within.1 in
     rw (here, rest) refl
 
 -- names keep their terms where the graph grows
@@ -91,10 +99,13 @@ pub named_terms-front
     → AreNumbers (length old) names
     → named_terms new names ≡ named_terms old names
 named_terms-front old new names front within =
-    named_terms-recursion old new names front (recursion_from_All (λ (own : List ℕ × ℕ). own.1 < length old) names within)
+    named_terms-recursion old new names front
+    (recursion_from_All (λ (own : List ℕ × ℕ). own.1 < length old) names within)
 
 -- a name that has a number is known
-pub is_known-number : (name : List ℕ) (names : List (List ℕ × ℕ)) → is_known name (keys_of names) ≡ is_some (number_of name names)
+pub is_known-number
+    : (name : List ℕ) (names : List (List ℕ × ℕ))
+    → is_known name (keys_of names) ≡ is_some (number_of name names)
 is_known-number name [] = refl
 is_known-number name (own ∷ names) = by_test (bytes_eq name own.0) (is_known-number name names)
   where
@@ -133,7 +144,8 @@ pub known-number
     → ⊥
 known-number name place w names is known none =
     let unknown : is_known name (keys_of names) ≡ false = is_known-number name names ∙ ap is_some none in
-    none-some place (sym known ∙ ap (first_unknown (keys_of names)) is ∙ ap (λ b. cond b None (Some place)) unknown)
+    none-some place
+    (sym known ∙ ap (first_unknown (keys_of names)) is ∙ ap (λ b. cond b None (Some place)) unknown)
 
 -- a name stands for the term of its number
 lookup-number
@@ -141,12 +153,15 @@ lookup-number
     → number_of name names ≡ Some n
     → lookup (bytes_eq name) (named_terms made names) ≡ Some (term_at made n)
 lookup-number made name [] n is = cc
-lookup-number made name (own ∷ names) n is = by_test (bytes_eq name own.0) is (lookup-number made name names n)
+lookup-number made name (own ∷ names) n is =
+    by_test (bytes_eq name own.0) is (lookup-number made name names n)
   where
     by_test : (b : Bool)
         → cond b (Some own.1) (number_of name names) ≡ Some n
-        → (number_of name names ≡ Some n → lookup (bytes_eq name) (named_terms made names) ≡ Some (term_at made n))
-        → cond b (Some (term_at made own.1)) (lookup (bytes_eq name) (named_terms made names)) ≡ Some (term_at made n)
+        → (number_of name names ≡ Some n
+        → lookup (bytes_eq name) (named_terms made names) ≡ Some (term_at made n))
+        → cond b (Some (term_at made own.1)) (lookup (bytes_eq name) (named_terms made names))
+        ≡ Some (term_at made n)
     by_test true same more =
         let number : own.1 ≡ n = cc in
         ap (λ k. Some (term_at made k)) number
@@ -159,7 +174,8 @@ number-within
     → number_of name names ≡ Some n
     → n < bound
 number-within bound name [] n within is = absurd (none-some n is)
-number-within bound name (own ∷ names) n within is = by_test (bytes_eq name own.0) is (number-within bound name names n within.1)
+number-within bound name (own ∷ names) n within is =
+    by_test (bytes_eq name own.0) is (number-within bound name names n within.1)
   where
     by_test : (b : Bool)
         → cond b (Some own.1) (number_of name names) ≡ Some n
@@ -178,8 +194,10 @@ pub number-meaning
     → number_of name names ≡ Some n
     → (n < length made) × (term_at made n ≡ meaning (named_terms made names) w)
 number-meaning made names w name place n is within found = (
-  number-within (length made) name names n (recursion_from_All (λ (own : List ℕ × ℕ). own.1 < length made) names within) found,
-  ap (λ o. unwrap_or o variable) (sym (lookup-number made name names n found)) ∙ sym (ap (meaning (named_terms made names)) is),
+  number-within (length made) name names n
+      (recursion_from_All (λ (own : List ℕ × ℕ). own.1 < length made) names within) found,
+  ap (λ o. unwrap_or o variable) (sym (lookup-number made name names n found))
+      ∙ sym (ap (meaning (named_terms made names)) is),
 )
 
 -- ---- Requests ----
@@ -211,12 +229,13 @@ left-stopped old new terms w a b e is stop =
     (IsStopped-first old new (text_requests terms a) _ e stop)
 
 -- What a call has done behind the left part of a product.
-pub record IsLeftDone (old mid : List Term) (names : List (List ℕ × ℕ)) (a : Written) (left : ℕ) : Type 0 where
-  pub numbers : AreNumbers (length old) names
-  pub within : left < length mid
-  pub number : term_at mid left ≡ meaning (named_terms old names) a
-  pub asked : ask_all (answered old) (text_requests (named_terms old names) a) ≡ answered mid
-  pub kept : IsFront old mid
+pub record IsLeftDone (old mid : List Term) (names : List (List ℕ × ℕ)) (a : Written) (left : ℕ) : Type 0
+  where
+    pub numbers : AreNumbers (length old) names
+    pub within : left < length mid
+    pub number : term_at mid left ≡ meaning (named_terms old names) a
+    pub asked : ask_all (answered old) (text_requests (named_terms old names) a) ≡ answered mid
+    pub kept : IsFront old mid
 
 -- the requests stop in the right part
 pub right-stopped
@@ -231,10 +250,12 @@ right-stopped old mid new names w a b left e is done stop =
     let left = AreLeft-granted old mid (text_requests terms a) _ done.asked in
     subst (λ z. IsStopped old new (text_requests terms z) e) (sym is)
     (AreLeft-stopped old mid new _ _ e left
-    (IsStopped-first mid new (text_requests terms b) _ e (subst (λ z. IsStopped mid new (text_requests z b) e) same stop)))
+    (IsStopped-first mid new (text_requests terms b) _ e
+    (subst (λ z. IsStopped mid new (text_requests z b) e) same stop)))
 
 -- What a call has done behind both parts of a product.
-pub record ArePartsDone (old last : List Term) (terms : List (List ℕ × Term)) (w : Written) (left right : ℕ) : Type 0 where
+pub record ArePartsDone (old last : List Term) (terms : List (List ℕ × Term)) (w : Written)
+    (left right : ℕ) : Type 0 where
   pub left_within : left < length last
   pub number : meaning terms w ≡ multiply (term_at last left) (term_at last right)
   pub due : AreLeft old last (text_requests terms w) (multiply (term_at last left) (term_at last right) ∷ [])
@@ -252,16 +273,20 @@ pub parts-done
 parts-done old mid last names w a b left right is done number granted front =
     let terms = named_terms old names in
     let same : named_terms mid names ≡ terms = named_terms-front old mid names done.kept done.numbers in
-    let left_is : term_at last left ≡ meaning terms a = term_at-front mid last left front done.within ∙ done.number in
+    let left_is : term_at last left ≡ meaning terms a =
+    term_at-front mid last left front done.within ∙ done.number in
     let right_is : term_at last right ≡ meaning terms b = number ∙ ap (λ z. meaning z b) same in
-    let product : multiply (meaning terms a) (meaning terms b) ≡ multiply (term_at last left) (term_at last right) =
+    let product : multiply (meaning terms a) (meaning terms b)
+    ≡ multiply (term_at last left) (term_at last right) =
     ap (λ z. multiply z (meaning terms b)) (sym left_is) ∙ ap (multiply (term_at last left)) (sym right_is) in
-    let second : ask_all (answered mid) (text_requests terms b) ≡ answered last = ap (λ z. ask_all (answered mid) (text_requests z b)) (sym same) ∙ granted in
+    let second : ask_all (answered mid) (text_requests terms b) ≡ answered last =
+    ap (λ z. ask_all (answered mid) (text_requests z b)) (sym same) ∙ granted in
     record {
       left_within = length-front mid last left front done.within;
       number = ap (meaning terms) is ∙ product;
       due =
-          subst (λ z. AreLeft old last z (multiply (term_at last left) (term_at last right) ∷ [])) (sym (ap (text_requests terms) is))
+          subst (λ z. AreLeft old last z (multiply (term_at last left) (term_at last right) ∷ []))
+          (sym (ap (text_requests terms) is))
           (subst (λ z. AreLeft old last (text_requests terms (times a b)) (z ∷ [])) product
           (AreLeft-more old mid last (text_requests terms (times a b)) (text_requests terms b) _
           (AreLeft-granted old mid (text_requests terms a) _ done.asked) second));

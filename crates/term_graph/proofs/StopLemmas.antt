@@ -1,7 +1,7 @@
 -- Requests that stop before their end, and what is there then.
 --
--- A stop in the first requests is one of them all (`IsStopped-first`), and so is a stop in those that are left
--- (`AreLeft`, `AreLeft-stopped`). It is a refusal of them all (`IsStopped-refusal`).
+-- A stop in the first requests is one of them all (`IsStopped-first`), and so is a stop in those that are
+-- left (`AreLeft`, `AreLeft-stopped`). It is a refusal of them all (`IsStopped-refusal`).
 use Rattle.std.proofs.Common.{◌≡◌, List, [], ◌∷◌, ◌++◌, Result, Ok, Err, IfErr, OnErr, refl, sym, ap, ◌∙◌, subst, append_assoc, append-nil}
 use Rattle.ld_term.specs.Terms.{Term}
 use Rattle.term_graph.specs.Asks.{Asked, answered, ask, ask_all, ask_first, IsRefusal, IsStopped}

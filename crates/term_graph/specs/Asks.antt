@@ -13,7 +13,8 @@
 --   ask_all asked requests   the answer to a list of requests, where the answer so far is `asked`
 --   IsRefusal asked error    a call that met this answer fails so: for its refusal, or for want of memory
 --   ask_first terms requests                 the answer to the first of these requests, if there is one
---   IsStopped old new requests error         a call that fails so has had its requests granted up to where it failed
+-- IsStopped old new requests error         a call that fails so has had its requests granted up to where it
+-- failed
 use Rattle.std.specs.Prelude.{◌≡◌, ◌&&◌, nat_lt, Bool, true, false, if◌then◌else◌, List, [], ◌∷◌, ◌++◌}
 use Rattle.std.specs.List.{list_any}
 use Rattle.ld_term.specs.Terms.{Term, variable, multiply, height}
@@ -71,11 +72,12 @@ abbrev pub ask_first : List Term → List Term → Asked
 ask_first terms [] = answered terms
 ask_first terms (t ∷ requests) = ask terms t
 
--- How a call leaves a graph whose requests it failed to have granted: those in front were, and the terms are as
--- they were then; the next one is refused for this error, or memory ran out.
-pub record IsStopped (old : List Term) (new : List Term) (requests : List Term) (error : GraphErr) : Type 0 where
-  pub granted : List Term
-  pub rest : List Term
-  pub in_turn : requests ≡ granted ++ rest
-  pub there : ask_all (answered old) granted ≡ answered new
-  pub refused : IsRefusal (ask_first new rest) error
+-- How a call leaves a graph whose requests it failed to have granted: those in front were, and the terms are
+-- as they were then; the next one is refused for this error, or memory ran out.
+pub record IsStopped (old : List Term) (new : List Term) (requests : List Term) (error : GraphErr) : Type 0
+  where
+    pub granted : List Term
+    pub rest : List Term
+    pub in_turn : requests ≡ granted ++ rest
+    pub there : ask_all (answered old) granted ≡ answered new
+    pub refused : IsRefusal (ask_first new rest) error

@@ -35,7 +35,11 @@ add_new listed (t ∷ ts) = add_new (if has_term t listed then listed else liste
 
 -- With each term the list has the products of it. No public clause cites it.
 pub record IsClosed (listed : List Term) : Type 0 where
-  pub has : (t u : Term) → has_term t listed ≡ true → has_term u (products t) ≡ true → has_term u listed ≡ true
+  pub has
+      : (t u : Term)
+      → has_term t listed ≡ true
+      → has_term u (products t) ≡ true
+      → has_term u listed ≡ true
 
 -- The different products: of (xx)(xx) they are xx and (xx)(xx).
 unfoldable pub distinct_products : Term → List Term
@@ -56,7 +60,8 @@ name_text listed (multiply t u) = codes "t" ++ decimal (number_in listed (multip
 abbrev pub product_line : List Term → ℕ → Term → List ℕ
 product_line listed k variable = []
 product_line listed k (multiply t u) =
-    line (codes "t" ++ (decimal k ++ (codes " = (" ++ (name_text listed t ++ (codes "*" ++ (name_text listed u ++ codes ")"))))))
+    line (codes "t" ++ (decimal k ++ (codes " = ("
+    ++ (name_text listed t ++ (codes "*" ++ (name_text listed u ++ codes ")"))))))
 
 -- The lines of products with the numbers from k on.
 abbrev pub product_lines : List Term → ℕ → List Term → List ℕ

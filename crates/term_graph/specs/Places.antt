@@ -20,9 +20,14 @@ pub record IsPlaced (numbers places : List ℕ) : Type 0 where
   pub within : (k : ℕ) → k < length numbers → slice_index_or numbers k 0 < length places
   pub place : (k : ℕ) → k < length numbers → place_of places (slice_index_or numbers k 0) ≡ k + 1
   pub few : (n : ℕ) → n < length places → place_of places n ≤ length numbers
-  pub number : (n : ℕ) → n < length places → 0 < place_of places n → slice_index_or numbers (place_of places n - 1) 0 ≡ n
+  pub number
+      : (n : ℕ)
+      → n < length places
+      → 0 < place_of places n
+      → slice_index_or numbers (place_of places n - 1) 0 ≡ n
 
--- Of a graph, some numbers and their places are a part of a listing: with each product they have its products.
+-- Of a graph, some numbers and their places are a part of a listing: with each product they have its
+-- products.
 pub record IsBegun (made : List Term) (numbers places : List ℕ) : Type 0 where
   pub graph : IsGraph made
   pub room : length places ≡ length made

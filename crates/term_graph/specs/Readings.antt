@@ -41,7 +41,8 @@ terms_after terms [] = terms
 terms_after terms (r ∷ read) = terms_after (terms_behind terms r) read
 
 -- All products were granted: this graph is made, in which the names and the last terms have these numbers.
-pub record IsMade (graph : List Term) (names : List (List ℕ × ℕ)) (read : List Line) (numbers : List ℕ) : Type 0 where
+pub record IsMade (graph : List Term) (names : List (List ℕ × ℕ)) (read : List Line) (numbers : List ℕ) : Type
+    0 where
   pub asked : ask_all (answered (variable ∷ [])) (file_requests [] read) ≡ answered graph
   pub terms : named_terms graph names ≡ terms_after [] read
   pub last : map (term_at graph) numbers ≡ last_terms [] read
@@ -50,11 +51,14 @@ pub record IsMade (graph : List Term) (names : List (List ℕ × ℕ)) (read : L
 -- The products were granted; or one was refused, for its height or because there are too many.
 abbrev pub IsAnswer : Option Limit → List Term → List (List ℕ × ℕ) → List Line → List ℕ → Type 0
 IsAnswer None graph names read numbers = IsMade graph names read numbers
-IsAnswer (Some Height) graph names read numbers = ask_all (answered (variable ∷ [])) (file_requests [] read) ≡ too_deep
-IsAnswer (Some Nodes) graph names read numbers = ask_all (answered (variable ∷ [])) (file_requests [] read) ≡ full
+IsAnswer (Some Height) graph names read numbers =
+    ask_all (answered (variable ∷ [])) (file_requests [] read) ≡ too_deep
+IsAnswer (Some Nodes) graph names read numbers =
+    ask_all (answered (variable ∷ [])) (file_requests [] read) ≡ full
 
 -- What is kept behind the lines.
-pub record Keeps (graph : List Term) (names : List (List ℕ × ℕ)) (limit : Option Limit) (read : List Line) (numbers : List ℕ) : Type 0 where
+pub record Keeps (graph : List Term) (names : List (List ℕ × ℕ)) (limit : Option Limit) (read : List Line)
+    (numbers : List ℕ) : Type 0 where
   pub known : keys_of names ≡ names_after [] read
   pub within : All (λ own. own.1 < length graph) names
   pub answer : IsAnswer limit graph names read numbers
@@ -64,7 +68,8 @@ abbrev pub Holds : Reading → List Line → List ℕ → Type 0
 Holds reading read numbers = Keeps reading.graph reading.names reading.limit read numbers
 
 -- So many lines were read, of which the terms have these numbers, and these lines are left.
-pub record IsReadTo (terms : ℕ) (lines rest : List (List ℕ)) (k : ℕ) (reading : Reading) (numbers : List ℕ) : Type 0 where
+pub record IsReadTo (terms : ℕ) (lines rest : List (List ℕ)) (k : ℕ) (reading : Reading)
+    (numbers : List ℕ) : Type 0 where
   pub before : List Due
   pub read : List Line
   pub whole : due_lines terms lines ≡ before ++ due_lines terms rest
@@ -85,17 +90,22 @@ fault_at k term_errors.Memory = Memory
 -- A term was entered: its products were granted, and this is its number; or one was refused.
 abbrev pub IsEnteredTo : Option Limit → List Term → List (List ℕ × ℕ) → Written → List Term → ℕ → Type 0
 IsEnteredTo None old names t new n =
-    (ask_all (answered old) (text_requests (named_terms old names) t) ≡ answered new) × (term_at new n ≡ meaning (named_terms old names) t)
-IsEnteredTo (Some Height) old names t new n = ask_all (answered old) (text_requests (named_terms old names) t) ≡ too_deep
-IsEnteredTo (Some Nodes) old names t new n = ask_all (answered old) (text_requests (named_terms old names) t) ≡ full
+    (ask_all (answered old) (text_requests (named_terms old names) t) ≡ answered new)
+    × (term_at new n ≡ meaning (named_terms old names) t)
+IsEnteredTo (Some Height) old names t new n =
+    ask_all (answered old) (text_requests (named_terms old names) t) ≡ too_deep
+IsEnteredTo (Some Nodes) old names t new n =
+    ask_all (answered old) (text_requests (named_terms old names) t) ≡ full
 
 -- A term was entered, or none is behind a refused product.
-abbrev pub IsEnteredFrom : Option Limit → List Term → List (List ℕ × ℕ) → Written → List Term → Option Limit → ℕ → Type 0
+abbrev pub IsEnteredFrom : Option Limit → List Term → List (List ℕ × ℕ) → Written → List Term → Option Limit
+    → ℕ → Type 0
 IsEnteredFrom None old names t new limit n = IsEnteredTo limit old names t new n
 IsEnteredFrom (Some why) old names t new limit n = limit ≡ Some why
 
 -- A term was entered, and its number is one of the graph, which has grown at most.
-pub record IsEntered (old : List Term) (names : List (List ℕ × ℕ)) (limit : Option Limit) (t : Written) (new : List Term) (now : Option Limit) (n : ℕ) : Type 0 where
+pub record IsEntered (old : List Term) (names : List (List ℕ × ℕ)) (limit : Option Limit) (t : Written)
+    (new : List Term) (now : Option Limit) (n : ℕ) : Type 0 where
   pub answer : IsEnteredFrom limit old names t new now n
   pub kept : IsFront old new
   pub within : n < length new
@@ -103,12 +113,18 @@ pub record IsEntered (old : List Term) (names : List (List ℕ × ℕ)) (limit :
 -- A line was read that defines a name.
 pub record Defines (k : ℕ) (bytes : List ℕ) (old new : Reading) (r : Line) : Type 0 where
   pub sound : IsSound k (keys_of old.names) (record { defines = true; bytes = bytes }) r
-  pub holds : (read : List Line) (numbers : List ℕ) → Holds old read numbers → Holds new (read ++ (r ∷ [])) numbers
+  pub holds
+      : (read : List Line) (numbers : List ℕ)
+      → Holds old read numbers
+      → Holds new (read ++ (r ∷ [])) numbers
 
 -- A line was read that is a term, and this is its number.
 pub record Closes (k : ℕ) (bytes : List ℕ) (old new : Reading) (r : Line) (n : ℕ) : Type 0 where
   pub sound : IsSound k (keys_of old.names) (record { defines = false; bytes = bytes }) r
-  pub holds : (read : List Line) (numbers : List ℕ) → Holds old read numbers → Holds new (read ++ (r ∷ [])) (numbers ++ (n ∷ []))
+  pub holds
+      : (read : List Line) (numbers : List ℕ)
+      → Holds old read numbers
+      → Holds new (read ++ (r ∷ [])) (numbers ++ (n ∷ []))
 
 -- The file is refused for the product that was refused.
 abbrev pub IsLimit : Option Limit → DefsErr → Type 0

@@ -40,7 +40,8 @@ meaning terms leaf = variable
 meaning terms (named name place) = unwrap_or (lookup (bytes_eq name) terms) variable
 meaning terms (times a b) = multiply (meaning terms a) (meaning terms b)
 
--- The products in postorder, the left part first: of `(x*x)*a`, where `a` stands for t, they are xx and (xx)t.
+-- The products in postorder, the left part first: of `(x*x)*a`, where `a` stands for t, they are xx and
+-- (xx)t.
 abbrev pub text_requests : List (List ℕ × Term) → Written → List Term
 text_requests terms leaf = []
 text_requests terms (named name place) = []

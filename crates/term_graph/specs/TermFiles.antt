@@ -53,7 +53,8 @@ pub record Due : Type 0 where
 -- The lines of a file: those with fewer lines behind them than terms are asked for are terms.
 abbrev pub due_lines : ℕ → List (List ℕ) → List Due
 due_lines terms [] = []
-due_lines terms (bytes ∷ lines) = record { defines = not (nat_lt (length lines) terms); bytes = bytes } ∷ due_lines terms lines
+due_lines terms (bytes ∷ lines) =
+    record { defines = not (nat_lt (length lines) terms); bytes = bytes } ∷ due_lines terms lines
 
 -- The tokens are a text of what the line says.
 abbrev pub IsLineText : Bool → List Token → Line → Type 0
@@ -92,7 +93,10 @@ line_fault k names r =
 
 -- The fault of line k: it leaves the grammar, or what it says has one.
 pub data IsLineFault (k : ℕ) (names : List (List ℕ)) (line : Due) (error : DefsErr) : Type 0 where
-  unread : (place : ℕ) → IsFault (λ tokens. (r : Line) × IsLineText line.defines tokens r) (line_tokens line) (length line.bytes) place
+  unread
+      : (place : ℕ)
+      → IsFault (λ tokens. (r : Line) × IsLineText line.defines tokens r) (line_tokens line)
+      (length line.bytes) place
       → error ≡ Form k place → IsLineFault k names line error
   faulty : (r : Line) → Says line r → line_fault k names r ≡ Some error → IsLineFault k names line error
 
@@ -111,7 +115,8 @@ names_behind names (closing t) = names
 -- The lines from line k on say this, and none has a fault.
 abbrev pub AreSound : ℕ → List (List ℕ) → List Due → List Line → Type 0
 AreSound k names [] [] = Unit {0}
-AreSound k names (line ∷ lines) (r ∷ read) = IsSound k names line r × AreSound (k + 1) (names_behind names r) lines read
+AreSound k names (line ∷ lines) (r ∷ read) =
+    IsSound k names line r × AreSound (k + 1) (names_behind names r) lines read
 AreSound k names [] (r ∷ read) = ⊥
 AreSound k names (line ∷ lines) [] = ⊥
 
@@ -119,7 +124,8 @@ AreSound k names (line ∷ lines) [] = ⊥
 abbrev pub IsFirstFault : ℕ → List (List ℕ) → List Due → DefsErr → Type 0
 IsFirstFault k names [] error = ⊥
 IsFirstFault k names (line ∷ lines) error =
-    IsLineFault k names line error ⊎ ((r : Line) × IsSound k names line r × IsFirstFault (k + 1) (names_behind names r) lines error)
+    IsLineFault k names line error
+    ⊎ ((r : Line) × IsSound k names line r × IsFirstFault (k + 1) (names_behind names r) lines error)
 
 -- ---- What a file asks for ----
 
@@ -131,12 +137,14 @@ terms_behind terms (closing t) = terms
 -- The products that the lines ask for, line by line.
 abbrev pub file_requests : List (List ℕ × Term) → List Line → List Term
 file_requests terms [] = []
-file_requests terms (r ∷ read) = text_requests terms (line_term r) ++ file_requests (terms_behind terms r) read
+file_requests terms (r ∷ read) =
+    text_requests terms (line_term r) ++ file_requests (terms_behind terms r) read
 
 -- The terms that the lines without a name stand for.
 abbrev pub last_terms : List (List ℕ × Term) → List Line → List Term
 last_terms terms [] = []
-last_terms terms (definition name place t ∷ read) = last_terms (terms_behind terms (definition name place t)) read
+last_terms terms (definition name place t ∷ read) =
+    last_terms (terms_behind terms (definition name place t)) read
 last_terms terms (closing t ∷ read) = meaning terms t ∷ last_terms terms read
 
 -- ---- Whole files ----
@@ -153,7 +161,8 @@ AreWithin made first (Some second) = (first < length made) × (second < length m
 
 -- No line has a fault and no product is refused: this graph is made, in which the last terms have these
 -- numbers.
-pub record IsTermFile (terms : ℕ) (lines : List (List ℕ)) (made : List Term) (first : ℕ) (second : Option ℕ) : Type 0 where
+pub record IsTermFile (terms : ℕ) (lines : List (List ℕ)) (made : List Term) (first : ℕ)
+    (second : Option ℕ) : Type 0 where
   pub read : List Line
   pub enough : terms ≤ length lines
   pub sound : AreSound 1 [] (due_lines terms lines) read
@@ -165,8 +174,13 @@ pub record IsTermFile (terms : ℕ) (lines : List (List ℕ)) (made : List Term)
 -- too high or one too many.
 pub data IsFileRefusal (terms : ℕ) (lines : List (List ℕ)) (error : DefsErr) : Type 0 where
   few : length lines < terms → error ≡ Lines (length lines + 1) → IsFileRefusal terms lines error
-  first_fault : terms ≤ length lines → IsFirstFault 1 [] (due_lines terms lines) error → IsFileRefusal terms lines error
+  first_fault
+      : terms ≤ length lines
+      → IsFirstFault 1 [] (due_lines terms lines) error
+      → IsFileRefusal terms lines error
   too_high : (read : List Line) → terms ≤ length lines → AreSound 1 [] (due_lines terms lines) read
-      → ask_all (answered (variable ∷ [])) (file_requests [] read) ≡ too_deep → error ≡ Height → IsFileRefusal terms lines error
+      → ask_all (answered (variable ∷ [])) (file_requests [] read) ≡ too_deep → error ≡ Height
+      → IsFileRefusal terms lines error
   too_large : (read : List Line) → terms ≤ length lines → AreSound 1 [] (due_lines terms lines) read
-      → ask_all (answered (variable ∷ [])) (file_requests [] read) ≡ full → error ≡ Nodes → IsFileRefusal terms lines error
+      → ask_all (answered (variable ∷ [])) (file_requests [] read) ≡ full → error ≡ Nodes
+      → IsFileRefusal terms lines error

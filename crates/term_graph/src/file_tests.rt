@@ -82,7 +82,8 @@ fn the_first_fault_decides(rt: HostRuntime) {
     }
 }
 
-// A definition of `a`, and a definition of it again that is a term with an unknown name under so many products.
+// A definition of `a`, and a definition of it again that is a term with an unknown name under so many
+// products.
 fn push_comb(file: &mut Vec<u8>, products: u64) -> Result<(), AllocError> {
     file.extend_from_slice(b"a=x\na=")?;
     for _ in 0..products {

@@ -17,8 +17,8 @@ use std::rc::Rc;
 
 /// Terms that share their parts, seen as a list: a number stands for the term at its place.
 ///
-/// The list begins with the variable; behind it come the products as they were made, no two the same, each behind
-/// its parts.
+/// The list begins with the variable; behind it come the products as they were made, no two the same, each
+/// behind its parts.
 #[derive(Drop)]
 pub struct TermGraph {
     alloc: Global,
@@ -90,7 +90,9 @@ impl TermGraph {
     /// The numbers of a product's parts.
     pub fn children(&self, a: NodeId) -> Option<(NodeId, NodeId)>
         requires { a < length self.now }
-        ensures { MatchOption result (term_at self.now a ≡ variable) (λ parts. (parts.0 < a) × (parts.1 < a) × (term_at self.now a ≡ multiply (term_at self.now parts.0) (term_at self.now parts.1))) }
+        ensures { MatchOption result (term_at self.now a ≡ variable)
+            (λ parts. (parts.0 < a) × (parts.1 < a)
+            × (term_at self.now a ≡ multiply (term_at self.now parts.0) (term_at self.now parts.1))) }
     {
         let pairs = &self.pairs;
         let place = a.index().checked_sub(1)?;
@@ -123,7 +125,8 @@ impl TermGraph {
         self.entries[a.index()].leaves
     }
 
-    /// The number of letters of a term's braid word, or the greatest number of 64 bits where it is above that.
+    /// The number of letters of a term's braid word, or the greatest number of 64 bits where it is above
+    /// that.
     pub fn length(&self, a: NodeId) -> u64
         requires { a < length self.now }
         ensures { result ≡ capped (braid_length (term_at self.now a)) }
@@ -138,15 +141,23 @@ impl TermGraph {
     pub fn product(&mut self, a: NodeId, b: NodeId) -> Result<NodeId, GraphErr>
         requires left { a < length self.old }
         requires right { b < length self.old }
-        ensures number { IfOk result (λ n. (n < length self.new) × (term_at self.new n ≡ multiply (term_at self.old a) (term_at self.old b))) }
-        ensures asked { OnOk result (ask self.old (multiply (term_at self.old a) (term_at self.old b)) ≡ answered self.new) }
-        ensures refused { IfErr result (IsRefusal (ask self.old (multiply (term_at self.old a) (term_at self.old b)))) }
+        ensures number { IfOk result
+            (λ n. (n < length self.new)
+            × (term_at self.new n ≡ multiply (term_at self.old a) (term_at self.old b))) }
+        ensures asked { OnOk result
+            (ask self.old (multiply (term_at self.old a) (term_at self.old b)) ≡ answered self.new) }
+        ensures refused { IfErr result
+            (IsRefusal (ask self.old (multiply (term_at self.old a) (term_at self.old b)))) }
         ensures unchanged { OnErr result (self.new ≡ self.old) }
 
-        // What the answer is, but for want of memory, which is answered only to a new product that may be added.
-        ensures there { has_term (multiply (term_at self.old a) (term_at self.old b)) self.old ≡ true → IsOk result }
-        ensures deep { ask self.old (multiply (term_at self.old a) (term_at self.old b)) ≡ too_deep → IsErrOf result GraphErr.TooDeep }
-        ensures full { ask self.old (multiply (term_at self.old a) (term_at self.old b)) ≡ full → IsErrOf result GraphErr.Full }
+        // What the answer is, but for want of memory, which is answered only to a new product that may be
+        // added.
+        ensures there { has_term (multiply (term_at self.old a) (term_at self.old b)) self.old ≡ true
+            → IsOk result }
+        ensures deep { ask self.old (multiply (term_at self.old a) (term_at self.old b)) ≡ too_deep
+            → IsErrOf result GraphErr.TooDeep }
+        ensures full { ask self.old (multiply (term_at self.old a) (term_at self.old b)) ≡ full
+            → IsErrOf result GraphErr.Full }
     {
         if let Some(number) = self.find(a, b) {
             return Ok(number);
@@ -165,7 +176,10 @@ impl TermGraph {
     fn find(&self, a: NodeId, b: NodeId) -> Option<NodeId>
         requires left { a < length self.now }
         requires right { b < length self.now }
-        ensures { MatchOption result (has_term (multiply (term_at self.now a) (term_at self.now b)) self.now ≡ false) (λ n. (n < length self.now) × (term_at self.now n ≡ multiply (term_at self.now a) (term_at self.now b))) }
+        ensures { MatchOption result
+            (has_term (multiply (term_at self.now a) (term_at self.now b)) self.now ≡ false)
+            (λ n. (n < length self.now)
+            × (term_at self.now n ≡ multiply (term_at self.now a) (term_at self.now b))) }
     {
         let place = self.pairs.get_index_of(&(a.0, b.0))?;
         Some(NodeId(place as u32 + 1))
@@ -179,7 +193,8 @@ impl TermGraph {
         requires few { product_count self.old < MAX_NODES }
         requires new { has_term (multiply (term_at self.old a) (term_at self.old b)) self.old ≡ false }
         ensures number { IfOk result (λ n. n ≡ length self.old) }
-        ensures added { OnOk result (self.new ≡ self.old ++ multiply (term_at self.old a) (term_at self.old b) ∷ []) }
+        ensures added { OnOk result
+            (self.new ≡ self.old ++ multiply (term_at self.old a) (term_at self.old b) ∷ []) }
         ensures unchanged { OnErr result (self.new ≡ self.old) }
     {
         let number = self.entries.len() as u32;

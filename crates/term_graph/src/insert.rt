@@ -18,10 +18,18 @@ impl TermGraph {
     pub fn insert(&mut self, term: &Tree, names: &Names) -> Result<NodeId, GraphErr>
         requires known { first_unknown (keys_of names.now) (written term.now) ≡ None }
         requires numbers { All (λ own. own.1 < length self.old) names.now }
-        ensures number { IfOk result (λ n. (n < length self.new) × (term_at self.new n ≡ meaning (named_terms self.old names.now) (written term.now))) }
-        ensures asked { OnOk result (ask_all (answered self.old) (text_requests (named_terms self.old names.now) (written term.now)) ≡ answered self.new) }
-        ensures refused { IfErr result (IsRefusal (ask_all (answered self.old) (text_requests (named_terms self.old names.now) (written term.now)))) }
-        ensures stopped { IfErr result (IsStopped self.old self.new (text_requests (named_terms self.old names.now) (written term.now))) }
+        ensures number { IfOk result
+            (λ n. (n < length self.new)
+            × (term_at self.new n ≡ meaning (named_terms self.old names.now) (written term.now))) }
+        ensures asked { OnOk result
+            (ask_all (answered self.old) (text_requests (named_terms self.old names.now) (written term.now))
+            ≡ answered self.new) }
+        ensures refused { IfErr result
+            (IsRefusal (ask_all (answered self.old)
+            (text_requests (named_terms self.old names.now) (written term.now)))) }
+        ensures stopped { IfErr result
+            (IsStopped self.old self.new
+            (text_requests (named_terms self.old names.now) (written term.now))) }
         ensures kept { IsFront self.old self.new }
     {
         match term {

@@ -10,11 +10,14 @@ ghost use Rattle.term_graph.specs.Requests.{IsFront};
 ///
 /// The law is the contract; the body does nothing.
 pub fn law_requests()
-    ensures kept { (old : List Term) → (new : List Term) → (requests : List Term) → ask_all (answered old) requests ≡ answered new
+    ensures kept { (old : List Term) → (new : List Term) → (requests : List Term)
+        → ask_all (answered old) requests ≡ answered new
         → (n : ℕ) → n < length old → term_at new n ≡ term_at old n }
-    ensures there { (old : List Term) → (new : List Term) → (requests : List Term) → ask_all (answered old) requests ≡ answered new
+    ensures there { (old : List Term) → (new : List Term) → (requests : List Term)
+        → ask_all (answered old) requests ≡ answered new
         → All (λ t. has_term t new ≡ true) requests }
-    ensures skipped { (old : List Term) → (before : List Term) → (t : Term) → (after : List Term) → has_term t before ≡ true
+    ensures skipped { (old : List Term) → (before : List Term) → (t : Term) → (after : List Term)
+        → has_term t before ≡ true
         → ask_all (answered old) (before ++ t ∷ after) ≡ ask_all (answered old) (before ++ after) }
 {}
 

@@ -51,7 +51,9 @@ fn list_products(
     requires there { a < length graph.now }
     requires begun { IsBegun graph.now numbers.old.items places.old }
     ensures begun { OnOk result (IsBegun graph.now numbers.new.items places.new) }
-    ensures listed { OnOk result (map (term_at graph.now) numbers.new.items ≡ add_new (map (term_at graph.now) numbers.old.items) (products (term_at graph.now a))) }
+    ensures listed { OnOk result
+        (map (term_at graph.now) numbers.new.items
+        ≡ add_new (map (term_at graph.now) numbers.old.items) (products (term_at graph.now a))) }
 {
     if places[a.index()] > 0 {
         return Ok(());
@@ -109,8 +111,10 @@ impl Listing {
     fn place_of(&self, graph: &TermGraph, a: NodeId) -> u32
         requires there { a < length graph.now }
         requires listing { IsListing graph.now self.now.root self.now.numbers }
-        requires listed { has_term (term_at graph.now a) (distinct_products (term_at graph.now self.now.root)) ≡ true }
-        ensures { result ≡ number_in (distinct_products (term_at graph.now self.now.root)) (term_at graph.now a) }
+        requires listed { has_term (term_at graph.now a) (distinct_products (term_at graph.now self.now.root))
+            ≡ true }
+        ensures { result
+            ≡ number_in (distinct_products (term_at graph.now self.now.root)) (term_at graph.now a) }
     {
         // It is a graph: so no other number stands for this term.
         let _ = graph.nodes();
@@ -127,10 +131,13 @@ fn put_name<K: Sink>(
 ) -> Result<(), Failed>
     requires there { a < length graph.now }
     requires listing { IsListing graph.now listing.now.root listing.now.numbers }
-    requires listed { (t : Term) → has_term t (products (term_at graph.now a)) ≡ true → has_term t (distinct_products (term_at graph.now listing.now.root)) ≡ true }
-    ensures took { Puts (K.taken sink.old) (K.taken sink.new) result (name_text (distinct_products (term_at graph.now listing.now.root)) (term_at graph.now a)) }
+    requires listed { (t : Term) → has_term t (products (term_at graph.now a)) ≡ true
+        → has_term t (distinct_products (term_at graph.now listing.now.root)) ≡ true }
+    ensures took { Puts (K.taken sink.old) (K.taken sink.new) result
+        (name_text (distinct_products (term_at graph.now listing.now.root)) (term_at graph.now a)) }
     ensures cause { HasCause (K.faults sink.old) (K.faults sink.new) result }
-    ensures waits { K.waiting sink.new ≤ K.waiting sink.old + length (name_text (distinct_products (term_at graph.now listing.now.root)) (term_at graph.now a)) }
+    ensures waits { K.waiting sink.new ≤ K.waiting sink.old
+        + length (name_text (distinct_products (term_at graph.now listing.now.root)) (term_at graph.now a)) }
 {
     match graph.children(a) {
         None => give_all(sink, b"x"),
@@ -140,9 +147,11 @@ fn put_name<K: Sink>(
 
 // Gives the front of a product's line: its name and what follows it.
 fn put_front<K: Sink>(sink: &mut K, place: u64) -> Result<(), Failed>
-    ensures took { Puts (K.taken sink.old) (K.taken sink.new) result ((codes "t" ++ decimal place) ++ codes " = (") }
+    ensures took { Puts (K.taken sink.old) (K.taken sink.new) result
+        ((codes "t" ++ decimal place) ++ codes " = (") }
     ensures cause { HasCause (K.faults sink.old) (K.faults sink.new) result }
-    ensures waits { K.waiting sink.new ≤ K.waiting sink.old + length ((codes "t" ++ decimal place) ++ codes " = (") }
+    ensures waits { K.waiting sink.new ≤ K.waiting sink.old
+        + length ((codes "t" ++ decimal place) ++ codes " = (") }
 {
     put_numbered(sink, b"t", place)?;
     give_all(sink, b" = (")
@@ -158,10 +167,15 @@ fn put_parts<K: Sink>(
     requires left { parts.0 < length graph.now }
     requires right { parts.1 < length graph.now }
     requires listing { IsListing graph.now listing.now.root listing.now.numbers }
-    requires listed { has_term (multiply (term_at graph.now parts.0) (term_at graph.now parts.1)) (distinct_products (term_at graph.now listing.now.root)) ≡ true }
-    ensures took { Puts (K.taken sink.old) (K.taken sink.new) result (parts_text (distinct_products (term_at graph.now listing.now.root)) (term_at graph.now parts.0) (term_at graph.now parts.1)) }
+    requires listed { has_term (multiply (term_at graph.now parts.0) (term_at graph.now parts.1))
+        (distinct_products (term_at graph.now listing.now.root)) ≡ true }
+    ensures took { Puts (K.taken sink.old) (K.taken sink.new) result
+        (parts_text (distinct_products (term_at graph.now listing.now.root)) (term_at graph.now parts.0)
+        (term_at graph.now parts.1)) }
     ensures cause { HasCause (K.faults sink.old) (K.faults sink.new) result }
-    ensures waits { K.waiting sink.new ≤ K.waiting sink.old + length (parts_text (distinct_products (term_at graph.now listing.now.root)) (term_at graph.now parts.0) (term_at graph.now parts.1)) }
+    ensures waits { K.waiting sink.new ≤ K.waiting sink.old
+        + length (parts_text (distinct_products (term_at graph.now listing.now.root))
+        (term_at graph.now parts.0) (term_at graph.now parts.1)) }
 {
     put_name(sink, graph, listing, parts.0)?;
     give_all(sink, b"*")?;
@@ -177,9 +191,11 @@ fn put_product<K: Sink>(
 ) -> Result<(), Failed>
     requires within { k < length listing.now.numbers }
     requires listing { IsListing graph.now listing.now.root listing.now.numbers }
-    ensures took { Puts (K.taken sink.old) (K.taken sink.new) result (line_at (distinct_products (term_at graph.now listing.now.root)) k) }
+    ensures took { Puts (K.taken sink.old) (K.taken sink.new) result
+        (line_at (distinct_products (term_at graph.now listing.now.root)) k) }
     ensures cause { HasCause (K.faults sink.old) (K.faults sink.new) result }
-    ensures waits { K.waiting sink.new ≤ K.waiting sink.old + length (line_at (distinct_products (term_at graph.now listing.now.root)) k) }
+    ensures waits { K.waiting sink.new ≤ K.waiting sink.old
+        + length (line_at (distinct_products (term_at graph.now listing.now.root)) k) }
 {
     let Some(parts) = graph.children(listing.number_at(k)) else {
         unreachable!();
@@ -192,9 +208,13 @@ fn put_product<K: Sink>(
 // Gives the lines of all products.
 fn put_products<K: Sink>(sink: &mut K, graph: &TermGraph, listing: &Listing) -> Result<(), Failed>
     requires { IsListing graph.now listing.now.root listing.now.numbers }
-    ensures took { Puts (K.taken sink.old) (K.taken sink.new) result (product_lines (distinct_products (term_at graph.now listing.now.root)) 1 (distinct_products (term_at graph.now listing.now.root))) }
+    ensures took { Puts (K.taken sink.old) (K.taken sink.new) result
+        (product_lines (distinct_products (term_at graph.now listing.now.root)) 1
+        (distinct_products (term_at graph.now listing.now.root))) }
     ensures cause { HasCause (K.faults sink.old) (K.faults sink.new) result }
-    ensures waits { K.waiting sink.new ≤ K.waiting sink.old + length (product_lines (distinct_products (term_at graph.now listing.now.root)) 1 (distinct_products (term_at graph.now listing.now.root))) }
+    ensures waits { K.waiting sink.new ≤ K.waiting sink.old
+        + length (product_lines (distinct_products (term_at graph.now listing.now.root)) 1
+        (distinct_products (term_at graph.now listing.now.root))) }
 {
     for k in 0..listing.count() {
         put_product(sink, graph, listing, k)?;
@@ -204,17 +224,19 @@ fn put_products<K: Sink>(sink: &mut K, graph: &TermGraph, listing: &Listing) -> 
 
 /// Gives the text of a listing: a line for each product, which names it, and then the name of the term.
 ///
-/// The products of `(x*x)*x` are the lines `t1 = (x*x)` and `t2 = (t1*x)`, and then comes the line `t2`. After
-/// `Failed` the sink has taken a front of the text. It takes no memory.
+/// The products of `(x*x)*x` are the lines `t1 = (x*x)` and `t2 = (t1*x)`, and then comes the line `t2`.
+/// After `Failed` the sink has taken a front of the text. It takes no memory.
 pub fn put_listing<K: Sink>(
     sink: &mut K,
     graph: &TermGraph,
     listing: &Listing,
 ) -> Result<(), Failed>
     requires { IsListing graph.now listing.now.root listing.now.numbers }
-    ensures took { Puts (K.taken sink.old) (K.taken sink.new) result (listing_text (term_at graph.now listing.now.root)) }
+    ensures took { Puts (K.taken sink.old) (K.taken sink.new) result
+        (listing_text (term_at graph.now listing.now.root)) }
     ensures cause { HasCause (K.faults sink.old) (K.faults sink.new) result }
-    ensures waits { K.waiting sink.new ≤ K.waiting sink.old + length (listing_text (term_at graph.now listing.now.root)) }
+    ensures waits { K.waiting sink.new ≤ K.waiting sink.old
+        + length (listing_text (term_at graph.now listing.now.root)) }
 {
     put_products(sink, graph, listing)?;
     put_name(sink, graph, listing, listing.root())?;

@@ -12,5 +12,6 @@ ghost use Rattle.term_graph.specs.TermFiles.{IsTermFile};
 /// The law is the contract; the body does nothing.
 pub fn law_listing()
     ensures { (t : Term) → height t ≤ MAX_HEIGHT → length (distinct_products t) ≤ MAX_NODES
-        → IsTermFile 1 (lines_of (listing_text t)) (variable ∷ distinct_products t) (length (distinct_products t)) None }
+        → IsTermFile 1 (lines_of (listing_text t)) (variable ∷ distinct_products t)
+        (length (distinct_products t)) None }
 {}

@@ -69,7 +69,9 @@ impl Entry {
         requires right { IsEntry right.now }
         requires left_low { left.now.height < MAX_HEIGHT }
         requires right_low { right.now.height < MAX_HEIGHT }
-        ensures term { IfOk result (λ e. term_of e.tree.value ≡ multiply (term_of left.now.tree.value) (term_of right.now.tree.value)) }
+        ensures term { IfOk result
+            (λ e. term_of e.tree.value
+            ≡ multiply (term_of left.now.tree.value) (term_of right.now.tree.value)) }
         ensures entry { IfOk result IsEntry }
     {
         let tree = Node::Product(left.tree.clone()?, right.tree.clone()?);

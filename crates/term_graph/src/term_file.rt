@@ -77,8 +77,12 @@ fn fault_at(k: u64, error: TermErr) -> DefsErr
 
 // The definition that line k is, under the names that are known.
 fn definition_at(alloc: Global, line: &[u8], k: u64, names: &Names) -> Result<Definition, DefsErr>
-    ensures sound { IfOk result (λ d. IsSound k (keys_of names.now) (record { defines = true; bytes = line.now }) (definition d.name d.place (written d.term))) }
-    ensures refused { IfErr result (λ e. (e ≡ Memory) ⊎ IsLineFault k (keys_of names.now) (record { defines = true; bytes = line.now }) e) }
+    ensures sound { IfOk result
+        (λ d. IsSound k (keys_of names.now) (record { defines = true; bytes = line.now })
+        (definition d.name d.place (written d.term))) }
+    ensures refused { IfErr result
+        (λ e. (e ≡ Memory)
+        ⊎ IsLineFault k (keys_of names.now) (record { defines = true; bytes = line.now }) e) }
 {
     let definition = match read_definition(alloc, line) {
         Ok(definition) => definition,
@@ -101,8 +105,12 @@ fn definition_at(alloc: Global, line: &[u8], k: u64, names: &Names) -> Result<De
 
 // The term that line k is, under the names that are known.
 fn term_at(alloc: Global, line: &[u8], k: u64, names: &Names) -> Result<Tree, DefsErr>
-    ensures sound { IfOk result (λ tree. IsSound k (keys_of names.now) (record { defines = false; bytes = line.now }) (closing (written tree))) }
-    ensures refused { IfErr result (λ e. (e ≡ Memory) ⊎ IsLineFault k (keys_of names.now) (record { defines = false; bytes = line.now }) e) }
+    ensures sound { IfOk result
+        (λ tree. IsSound k (keys_of names.now) (record { defines = false; bytes = line.now })
+        (closing (written tree))) }
+    ensures refused { IfErr result
+        (λ e. (e ≡ Memory)
+        ⊎ IsLineFault k (keys_of names.now) (record { defines = false; bytes = line.now }) e) }
 {
     let term = match read_term(alloc, line) {
         Ok(term) => term,
@@ -133,7 +141,9 @@ impl Reading {
     fn enter(&mut self, term: &Tree) -> Result<NodeId, AllocError>
         requires known { first_unknown (keys_of self.old.names) (written term.now) ≡ None }
         requires numbers { All (λ own. own.1 < length self.old.graph) self.old.names }
-        ensures entered { IfOk result (λ n. IsEntered self.old.graph self.old.names self.old.limit (written term.now) self.new.graph self.new.limit n) }
+        ensures entered { IfOk result
+            (λ n. IsEntered self.old.graph self.old.names self.old.limit (written term.now) self.new.graph
+            self.new.limit n) }
         ensures names { self.new.names ≡ self.old.names }
     {
         if self.limit.is_some() {
@@ -157,7 +167,9 @@ impl Reading {
     fn define(&mut self, alloc: Global, line: &[u8], k: u64) -> Result<(), DefsErr>
         requires { (read : List Line) × (numbers : List ℕ) × Holds self.old read numbers }
         ensures sound { OnOk result ((r : Line) × Defines k line.now self.old self.new r) }
-        ensures refused { IfErr result (λ e. (e ≡ Memory) ⊎ IsLineFault k (keys_of self.old.names) (record { defines = true; bytes = line.now }) e) }
+        ensures refused { IfErr result
+            (λ e. (e ≡ Memory)
+            ⊎ IsLineFault k (keys_of self.old.names) (record { defines = true; bytes = line.now }) e) }
     {
         let definition = definition_at(alloc, line, k, &self.names)?;
         let number = self.enter(&definition.term)?;
@@ -172,7 +184,9 @@ impl Reading {
     fn close(&mut self, alloc: Global, line: &[u8], k: u64) -> Result<NodeId, DefsErr>
         requires { (read : List Line) × (numbers : List ℕ) × Holds self.old read numbers }
         ensures sound { IfOk result (λ n. (r : Line) × Closes k line.now self.old self.new r n) }
-        ensures refused { IfErr result (λ e. (e ≡ Memory) ⊎ IsLineFault k (keys_of self.old.names) (record { defines = false; bytes = line.now }) e) }
+        ensures refused { IfErr result
+            (λ e. (e ≡ Memory)
+            ⊎ IsLineFault k (keys_of self.old.names) (record { defines = false; bytes = line.now }) e) }
     {
         let term = term_at(alloc, line, k, &self.names)?;
         Ok(self.enter(&term)?)
@@ -180,7 +194,9 @@ impl Reading {
 
     // The file whose lines were all read, where no product was refused.
     fn finish(self, first: NodeId, second: Option<NodeId>) -> Result<TermFile, DefsErr>
-        ensures file { IfOk result (λ file. (self.limit ≡ None) × (file.graph ≡ self.graph) × (file.first ≡ first) × (file.second ≡ second)) }
+        ensures file { IfOk result
+            (λ file. (self.limit ≡ None) × (file.graph ≡ self.graph) × (file.first ≡ first)
+            × (file.second ≡ second)) }
         ensures refused { IfErr result (IsLimit self.limit) }
     {
         match self.limit {
@@ -199,15 +215,17 @@ impl Reading {
 ///
 /// Lines count from 1; a last line without LF counts. A file with fewer lines than terms is refused for the
 /// first line that is missing; otherwise the first line with a fault decides. Where no line has one, the
-/// products of all lines are asked of a new graph, line by line, in postorder, left part first; the first that
-/// is refused decides. The format is this project's own.
+/// products of all lines are asked of a new graph, line by line, in postorder, left part first; the first
+/// that is refused decides. The format is this project's own.
 pub fn read_terms(alloc: Global, bytes: &[u8], terms: u32) -> Result<TermFile, DefsErr>
     requires some { 1 ≤ terms }
     requires few { terms ≤ 2 }
-    ensures file { IfOk result (λ file. IsTermFile terms (lines_of bytes.now) file.graph file.first file.second) }
+    ensures file { IfOk result
+        (λ file. IsTermFile terms (lines_of bytes.now) file.graph file.first file.second) }
     ensures second { IfOk result (λ file. (is_some file.second ≡ true) ↔ (terms ≡ 2)) }
     ensures refused { IfErr result (λ e. (e ≡ Memory) ⊎ IsFileRefusal terms (lines_of bytes.now) e) }
-    ensures exact { (e : DefsErr) → IsFileRefusal terms (lines_of bytes.now) e → IsErrOf result e ⊎ IsErrOf result Memory }
+    ensures exact { (e : DefsErr) → IsFileRefusal terms (lines_of bytes.now) e
+        → IsErrOf result e ⊎ IsErrOf result Memory }
 {
     let count = count_lines(bytes);
     let Some(definitions) = count.checked_sub(terms as usize) else {

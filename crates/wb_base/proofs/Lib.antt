@@ -1,3 +1,4 @@
+pub mod PartLemmas
 pub mod StreamLemmas
 pub mod WaitingLemmas
 pub mod MemoryLemmas

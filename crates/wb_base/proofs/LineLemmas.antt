@@ -1,7 +1,7 @@
 -- Laws of the lines of a text.
 --
--- Texts without LF that stand as lines one after the other are its lines (`lines_of-flat_map`). There are no more
--- lines than bytes (`length-lines_of`).
+-- Texts without LF that stand as lines one after the other are its lines (`lines_of-flat_map`). There are no
+-- more lines than bytes (`length-lines_of`).
 use Rattle.std.proofs.Common.{◌≡◌, ◌≢◌, ℕ, suc, zero, ◌+◌, ◌<◌, ◌≤◌, Bool, true, false, cond, nat_eq, List, [], ◌∷◌, ◌++◌, length, get_or, take, drop, ap, refl, ◌∙◌, arith}
 use Rattle.std.specs.List.{AllByRecursion, flat_map, onto_first}
 use Rattle.std.proofs.lemmas.Bool.{eq-eqb, ne_eqb}
@@ -21,7 +21,9 @@ pub lines_of-found
 lines_of-found [] i within found none = absurd (omega arith)
 lines_of-found (b ∷ bytes) zero within found none = rw found refl
 lines_of-found (b ∷ bytes) (suc i) within found none =
-    lines_of-cons b bytes (none 0 (omega arith)) ∙ ap (onto_first b) (lines_of-found bytes i (omega arith) found (λ k below. none (suc k) (omega arith)))
+    lines_of-cons b bytes (none 0 (omega arith))
+    ∙ ap (onto_first b)
+    (lines_of-found bytes i (omega arith) found (λ k below. none (suc k) (omega arith)))
 
 -- with no LF all bytes are one line
 pub lines_of-last
@@ -32,7 +34,8 @@ pub lines_of-last
 lines_of-last [] some none = absurd (omega arith)
 lines_of-last (b ∷ []) some none = lines_of-cons b [] (none 0 (omega arith))
 lines_of-last (b ∷ c ∷ bytes) some none =
-    lines_of-cons b (c ∷ bytes) (none 0 (omega arith)) ∙ ap (onto_first b) (lines_of-last (c ∷ bytes) (omega arith) (λ k below. none (suc k) (omega arith)))
+    lines_of-cons b (c ∷ bytes) (none 0 (omega arith))
+    ∙ ap (onto_first b) (lines_of-last (c ∷ bytes) (omega arith) (λ k below. none (suc k) (omega arith)))
 
 -- ---- Whole lines ----
 

@@ -12,7 +12,8 @@ pub takes_part
     → 1 ≤ piece
     → (Some left ≡ Some (take n into ++ drop (at + n) items)) × (n ≡ 0 → 0 < length into → left ≡ [])
 takes_part left items given into at n piece view same count copied some =
-    let rest : take (length given - at) (drop at given) ≡ left = take_rest given at ∙ ap (drop at) same ∙ view in
+    let rest : take (length given - at) (drop at given) ≡ left =
+    take_rest given at ∙ ap (drop at) same ∙ view in
     let counted : n ≡ min piece (min (length left) (length into)) = rw rest at count in
     let front : take n into ≡ take n left = rw rest at copied in
     let back : drop (at + n) items ≡ drop n left = sym (drop-drop n at items) ∙ ap (drop n) view in (

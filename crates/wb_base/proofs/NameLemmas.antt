@@ -26,7 +26,8 @@ length-name (first ∷ rest) named =
 -- the bytes are the front of themselves with zeros behind
 take-padded : (bytes : List ℕ) → take (length bytes) (padded bytes) ≡ bytes
 take-padded bytes =
-    rw (take-append-le (length bytes) bytes (replicate (32 - length bytes) 0) (omega arith)) (take-length bytes)
+    rw (take-append-le (length bytes) bytes (replicate (32 - length bytes) 0) (omega arith))
+    (take-length bytes)
 
 -- a name and zeros behind it
 pub stored-new
@@ -59,7 +60,8 @@ same_name-true a b same =
 
 -- it holds of a name and itself
 pub same_name-self : (a : List ℕ) → same_name a a ≡ true
-same_name-self a = and_from _ _ ((bytes_decides (padded a) (padded a)).1 refl) (eq-eqb (length a) (length a) refl)
+same_name-self a =
+    and_from _ _ ((bytes_decides (padded a) (padded a)).1 refl) (eq-eqb (length a) (length a) refl)
 
 -- so it is the comparison of their bytes
 pub same_name-bytes : (a b : List ℕ) → same_name a b ≡ bytes_eq a b

@@ -44,7 +44,8 @@ digit_value-lt b digit = search (rules, tests)
 pub AllDigits-digits_in_front : (bytes : List ℕ) → AllDigits 10 (digits_in_front bytes)
 AllDigits-digits_in_front [] = tt
 AllDigits-digits_in_front (b ∷ bytes) =
-    subst (AllDigits 10) (sym (take_while-cons is_ascii_digit b bytes)) (elim (cases_Bool (is_ascii_digit b)) [
+    subst (AllDigits 10) (sym (take_while-cons is_ascii_digit b bytes))
+    (elim (cases_Bool (is_ascii_digit b)) [
       | inl h ↦ rw h (digit_value-lt b h, AllDigits-digits_in_front bytes)
       | inr h ↦ rw h tt
     ])

@@ -29,6 +29,20 @@ pub prepend_known-append
 prepend_known-append None a b = refl
 prepend_known-append (Some xs) a b = ap Some (sym (append_assoc a b xs))
 
+-- no bytes taken change nothing
+pub prepend_known-nil : (known : Option (List ℕ)) → prepend_known [] known ≡ known
+prepend_known-nil None = refl
+prepend_known-nil (Some xs) = refl
+
+-- and so two texts taken are their sum
+pub prepend_known-two
+    : (old mid new : Option (List ℕ)) (a b : List ℕ)
+    → old ≡ prepend_known a mid
+    → mid ≡ prepend_known b new
+    → old ≡ prepend_known (a ++ b) new
+prepend_known-two old mid new a b first then =
+    first ∙ ap (prepend_known a) then ∙ prepend_known-append new a b
+
 -- n bytes more of a text of which k were given
 pub took_more
     : (first now next : Option (List ℕ)) (text : List ℕ) (k n : ℕ)
@@ -36,7 +50,13 @@ pub took_more
     → next ≡ append_known now (take n (take (length text - k) (drop k text)))
     → next ≡ append_known first (take (k + n) text)
 took_more first now next text k n so_far given =
-    rw (given, so_far, take_rest text k, append_known-append first (take k text) (take n (drop k text)), take-add k n text) refl
+    rw (
+      given,
+      so_far,
+      take_rest text k,
+      append_known-append first (take k text) (take n (drop k text)),
+      take-add k n text,
+    ) refl
 
 -- a part of a text that was given is a front of it
 pub PutsFront-take
@@ -72,7 +92,12 @@ pub Skips-more
 Skips-more old mid new front into n most first then bound = (
   length (front ++ take n into),
   omega (arith, length-append front (take n into), length-take n into),
-  (front ++ take n into, refl, first ∙ ap (prepend_known front) then ∙ prepend_known-append new front (take n into)),
+  (
+    front ++ take n into,
+    refl,
+    first ∙ ap (prepend_known front) then
+        ∙ prepend_known-append new front (take n into),
+  ),
 )
 
 -- the text of two calls, of which the first failed
@@ -83,7 +108,8 @@ pub Puts-stopped
     → PutsFront old new a
     → Puts old new result text
 Puts-stopped old new result text a b parts failed (front, rest, cut, given) =
-    MatchResult-from_err result _ _ failed (λ _. (front, rest ++ b, parts ∙ rw cut (append_assoc front rest b), given))
+    MatchResult-from_err result _ _ failed
+    (λ _. (front, rest ++ b, parts ∙ rw cut (append_assoc front rest b), given))
 
 -- a front of a text that follows one that was put
 PutsFront-more
@@ -106,7 +132,9 @@ pub Puts-more
     → Puts mid new result b
     → Puts old new result text
 Puts-more old mid new result text a b parts put rest =
-    rw parts (MatchResult-weaker result rest (λ _ all. all ∙ ap (λ k. append_known k b) put ∙ append_known-append old a b) (λ _ front. PutsFront-more old mid new a b put front))
+    rw parts (MatchResult-weaker result rest
+    (λ _ all. all ∙ ap (λ k. append_known k b) put ∙ append_known-append old a b)
+    (λ _ front. PutsFront-more old mid new a b put front))
 
 -- two texts that were put
 pub append_known-two
@@ -124,12 +152,16 @@ pub flat_map-split
     → x ≡ get_or xs i x
     → flat_map text_of xs ≡ (flat_map text_of (take i xs) ++ text_of x) ++ flat_map text_of (drop (i + 1) xs)
 flat_map-split text_of xs i x within is =
-    let cut : take i xs ++ (x ∷ drop (i + 1) xs) ≡ xs = ap (λ rest. take i xs ++ rest) (ap (λ y. y ∷ drop (i + 1) xs) is ∙ sym (drop_more xs i x within)) ∙ take-append-drop i xs in
-    ap (flat_map text_of) (sym cut) ∙ flat_map-append text_of (take i xs) (x ∷ drop (i + 1) xs) ∙ sym (append_assoc (flat_map text_of (take i xs)) (text_of x) _)
+    let cut : take i xs ++ (x ∷ drop (i + 1) xs) ≡ xs =
+    ap (λ rest. take i xs ++ rest) (ap (λ y. y ∷ drop (i + 1) xs) is ∙ sym (drop_more xs i x within))
+    ∙ take-append-drop i xs in
+    ap (flat_map text_of) (sym cut) ∙ flat_map-append text_of (take i xs) (x ∷ drop (i + 1) xs)
+    ∙ sym (append_assoc (flat_map text_of (take i xs)) (text_of x) _)
 
 -- the text of a loop over a list that stopped at one of its elements
 pub Puts-stopped_at
-    : {X T E : Type 0} (old mid new : Option (List ℕ)) (result : Result T E) (text_of : X → List ℕ) (xs : List X) (i : ℕ) (x : X)
+    : {X T E : Type 0} (old mid new : Option (List ℕ)) (result : Result T E) (text_of : X → List ℕ)
+    (xs : List X) (i : ℕ) (x : X)
     → i < length xs
     → x ≡ get_or xs i x
     → IsErr result
@@ -137,18 +169,22 @@ pub Puts-stopped_at
     → PutsFront mid new (text_of x)
     → Puts old new result (flat_map text_of xs)
 Puts-stopped_at old mid new result text_of xs i x within is failed put front =
-    Puts-stopped old new result _ (flat_map text_of (take i xs) ++ text_of x) (flat_map text_of (drop (i + 1) xs)) (flat_map-split text_of xs i x within is) failed (PutsFront-more old mid new _ _ put front)
+    Puts-stopped old new result _ (flat_map text_of (take i xs) ++ text_of x)
+    (flat_map text_of (drop (i + 1) xs)) (flat_map-split text_of xs i x within is) failed
+    (PutsFront-more old mid new _ _ put front)
 
 -- the same, where the element was looked up
 pub Puts-stopped_get
-    : {X T E : Type 0} (old mid new : Option (List ℕ)) (result : Result T E) (text_of : X → List ℕ) (xs : List X) (i : ℕ) (x : X)
+    : {X T E : Type 0} (old mid new : Option (List ℕ)) (result : Result T E) (text_of : X → List ℕ)
+    (xs : List X) (i : ℕ) (x : X)
     → slice_get xs i ≡ Some x
     → IsErr result
     → mid ≡ append_known old (flat_map text_of (take i xs))
     → PutsFront mid new (text_of x)
     → Puts old new result (flat_map text_of xs)
 Puts-stopped_get old mid new result text_of xs i x found failed put front =
-    Puts-stopped_at old mid new result text_of xs i x (slice_get_within xs i x found) (sym (get_or_from_slice_get xs i x x found)) failed put front
+    Puts-stopped_at old mid new result text_of xs i x (slice_get_within xs i x found)
+    (sym (get_or_from_slice_get xs i x x found)) failed put front
 
 -- the texts of the elements before a place and of the one there
 pub flat_map-take_more

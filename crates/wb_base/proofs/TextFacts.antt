@@ -22,7 +22,11 @@ no_number_row : number_at [] ≡ None
 no_number_row = refl
 
 -- a number is within its bounds, has no leading zero, and is the whole text
-within_row : number_within 1 64 (codes "64") ∷ (number_within 1 64 (codes "65") ∷ (number_within 0 64 (codes "01") ∷ (number_within 0 64 (codes "1x") ∷ []))) ≡ Some 64 ∷ (None ∷ (None ∷ (None ∷ [])))
+within_row
+    : number_within 1 64 (codes "64") ∷
+    (number_within 1 64 (codes "65") ∷
+    (number_within 0 64 (codes "01") ∷ (number_within 0 64 (codes "1x") ∷ [])))
+    ≡ Some 64 ∷ (None ∷ (None ∷ (None ∷ [])))
 within_row = refl
 
 -- `a LF LF b` is three lines, of which the second is empty

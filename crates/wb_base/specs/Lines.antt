@@ -22,7 +22,8 @@ abbrev pub onto_line : ℕ → List (List ℕ) × List ℕ → List (List ℕ) �
 onto_line byte ([], rest) = ([], byte ∷ rest)
 onto_line byte (text ∷ texts, rest) = ((byte ∷ text) ∷ texts, rest)
 
--- The lines that an LF ends, without it, and what stands behind the last LF: of `a LF b` they are `a`, and `b`.
+-- The lines that an LF ends, without it, and what stands behind the last LF: of `a LF b` they are `a`, and
+-- `b`.
 abbrev pub cut : List ℕ → List (List ℕ) × List ℕ
 cut [] = ([], [])
 cut (byte ∷ bytes) = if byte == 10 then ([] ∷ (cut bytes).0, (cut bytes).1) else onto_line byte (cut bytes)

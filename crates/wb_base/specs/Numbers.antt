@@ -26,7 +26,9 @@ is_canonical (d ∷ (e ∷ ds)) = not (d == 48)
 
 -- The number that a run of digits writes, below 2^64, and the length of the run.
 abbrev pub number_of : List ℕ → Option (ℕ × ℕ)
-number_of run = if is_canonical run && nat_lt (digits_value 10 run) (2 ^ 64) then Some (digits_value 10 run, length run) else None
+number_of run =
+    if is_canonical run && nat_lt (digits_value 10 run) (2 ^ 64) then Some (digits_value 10 run, length run)
+    else None
 
 -- A number behind a space.
 abbrev pub spaced_number : ℕ → List ℕ

@@ -14,6 +14,8 @@
 --   PutsFront old new text       a front of `text` went to the end of a sink
 --   ReadsAll old new bytes       `bytes` are all that a source had left
 --   Skips old new n              n bytes went from the front of a source
+--   Ends                         a source and a sink, as a run over both sees them: what the one has left and
+--                                the other has taken, and their counts
 use Rattle.std.specs.Prelude.{◌≡◌, ℕ, ◌+◌, ◌-◌, ◌^◌, ◌<◌, ◌≤◌, min, List, ◌++◌, length, take, Option, Result, MatchResult, OnErr}
 use Rattle.std.specs.Io.KnownBytes.{prepend_known, append_known, IsAtEnd}
 
@@ -42,12 +44,15 @@ CountsErrors before now result = MatchResult result (λ _. now ≡ before) (λ _
 -- only at the end; a failed call took nothing.
 abbrev pub TakesFront : {E : Type 0} → Option (List ℕ) → Option (List ℕ) → Result ℕ E → List ℕ → Type 0
 TakesFront old new result into =
-    MatchResult result (λ n. (old ≡ prepend_known (take n into) new) × (n ≡ 0 → 0 < length into → IsAtEnd old)) (λ _. new ≡ old)
+    MatchResult result
+    (λ n. (old ≡ prepend_known (take n into) new) × (n ≡ 0 → 0 < length into → IsAtEnd old))
+    (λ _. new ≡ old)
 
 -- A front of the text was taken, of at least one byte where there is one; a failed call took nothing.
 abbrev pub GivesFront : {E : Type 0} → Option (List ℕ) → Option (List ℕ) → Result ℕ E → List ℕ → Type 0
 GivesFront old new result text =
-    MatchResult result (λ n. (new ≡ append_known old (take n text)) × (0 < length text → 0 < n)) (λ _. new ≡ old)
+    MatchResult result (λ n. (new ≡ append_known old (take n text)) × (0 < length text → 0 < n))
+    (λ _. new ≡ old)
 
 -- How many bytes wait in a sink after it took some.
 abbrev pub WaitsAtMost : {E : Type 0} → ℕ → ℕ → Result ℕ E → Type 0
@@ -72,3 +77,13 @@ pub record ReadsAll (old new : Option (List ℕ)) (bytes : List ℕ) : Type 0 wh
 -- Some bytes were taken from the front, this many.
 abbrev pub Skips : Option (List ℕ) → Option (List ℕ) → ℕ → Type 0
 Skips old new n = (front : List ℕ) × (length front ≡ n) × (old ≡ prepend_known front new)
+
+-- ---- Both ends of a run ----
+
+pub record Ends : Type 0 where
+  pub left : Option (List ℕ)
+  pub reads : ℕ
+  pub calls : ℕ
+  pub taken : Option (List ℕ)
+  pub waiting : ℕ
+  pub writes : ℕ

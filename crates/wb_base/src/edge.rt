@@ -1,8 +1,9 @@
 // The calls of std's readers and writers: one `read`, one `write`, one `flush`.
 //
-// Std counts neither reads nor errors, and tells of no flush: so these are noted here, where each call is made.
-// The clauses of `standard.rt` speak of the notes. That a function here makes its call, once, and notes what was
-// answered, no clause can say: this is the program's edge.
+// Std counts neither reads nor errors, and tells of no flush: so these are noted here, where each call is
+// made.
+// The clauses of `standard.rt` speak of the notes. That a function here makes its call, once, and notes what
+// was answered, no clause can say: this is the program's edge.
 ghost use Rattle.std.specs.Prelude.{◌≡◌, ◌≤◌, ◌<◌, true, false, IfOk, OnOk, OnErr, length};
 ghost use Rattle.std.specs.Io.KnownBytes.{Keeps, ReadConsumes, WriteAppends};
 ghost use Rattle.wb_base.specs.Streams.{HasCause, CountsErrors, one_more};
@@ -41,7 +42,8 @@ impl<R: Read + Drop> CountedReader<R> {
     // One read.
     pub fn read(&mut self, into: &mut [u8]) -> Result<usize, Failed>
         ensures within { IfOk result (λ n. n ≤ length into.new) }
-        ensures bytes { ReadConsumes (R.remaining self.old.reader) (R.remaining self.new.reader) result into.new }
+        ensures bytes { ReadConsumes (R.remaining self.old.reader) (R.remaining self.new.reader) result
+            into.new }
         ensures counted { self.new.reads ≡ one_more self.old.reads }
         ensures cause { HasCause self.old.errors self.new.errors result }
         ensures errors { CountsErrors self.old.errors self.new.errors result }
@@ -78,7 +80,8 @@ impl<W: Write + Drop> CountedWriter<W> {
     pub fn write(&mut self, bytes: &[u8]) -> Result<usize, Failed>
         ensures within { IfOk result (λ n. n ≤ length bytes.now) }
         ensures some { IfOk result (λ n. 0 < length bytes.now → 0 < n) }
-        ensures written { WriteAppends (W.contents self.old.writer) (W.contents self.new.writer) result bytes.now }
+        ensures written { WriteAppends (W.contents self.old.writer) (W.contents self.new.writer) result
+            bytes.now }
         ensures unflushed { self.new.flushed ≡ false }
         ensures cause { HasCause self.old.errors self.new.errors result }
         ensures errors { CountsErrors self.old.errors self.new.errors result }

@@ -55,7 +55,9 @@ impl MemSource {
         failing: &[u64],
     ) -> Result<MemSource, AllocError>
         requires { 1 ≤ piece }
-        ensures { IfOk result (λ source. source ≡ record { left = bytes.now; piece = piece; failing = failing.now; calls = 0; faults = 0 }) }
+        ensures { IfOk result
+            (λ source. source
+            ≡ record { left = bytes.now; piece = piece; failing = failing.now; calls = 0; faults = 0 }) }
     {
         Ok(MemSource {
             bytes: Vec::from_slice(alloc, bytes)?,
@@ -83,10 +85,12 @@ impl Source for MemSource {
 
         // Exactly the listed calls fail, and any other gives as much as it may.
         ensures fails { IsTrue (is_listed self.old.failing self.old.calls) ↔ IsErr result }
-        ensures gives { IfOk result (λ n. n ≡ min self.old.piece (min (length self.old.left) (length into.new))) }
+        ensures gives { IfOk result
+            (λ n. n ≡ min self.old.piece (min (length self.old.left) (length into.new))) }
         ensures after { MatchResult result
             (λ n. self.new ≡ record self.old { left = drop n self.old.left; calls = one_more self.old.calls })
-            (λ _. self.new ≡ record self.old { calls = one_more self.old.calls; faults = one_more self.old.faults }) }
+            (λ _. self.new
+            ≡ record self.old { calls = one_more self.old.calls; faults = one_more self.old.faults }) }
     {
         let fails = self.failing.contains(&self.calls);
         self.calls = self.calls.saturating_add(1);
@@ -147,8 +151,11 @@ impl Source for SureSource {
         ensures counted { self.new.calls ≡ one_more self.old.calls }
 
         // No call fails, and each gives as much as it may.
-        ensures gives { IsOkAnd result (λ n. n ≡ min self.old.piece (min (length self.old.left) (length into.new))) }
-        ensures after { IfOk result (λ n. self.new ≡ record self.old { left = drop n self.old.left; calls = one_more self.old.calls }) }
+        ensures gives { IsOkAnd result
+            (λ n. n ≡ min self.old.piece (min (length self.old.left) (length into.new))) }
+        ensures after { IfOk result
+            (λ n. self.new
+            ≡ record self.old { left = drop n self.old.left; calls = one_more self.old.calls }) }
     {
         self.inner.take(into)
     }
@@ -197,7 +204,17 @@ impl MemSink {
         failing: &[u64],
     ) -> Result<MemSink, AllocError>
         requires { 1 ≤ piece }
-        ensures { IfOk result (λ sink. sink ≡ record { taken = []; waiting = 0; room = room; piece = piece; failing = failing.now; calls = 0; faults = 0 }) }
+        ensures { IfOk result
+            (λ sink. sink
+            ≡ record {
+              taken = [];
+              waiting = 0;
+              room = room;
+              piece = piece;
+              failing = failing.now;
+              calls = 0;
+              faults = 0;
+            }) }
     {
         Ok(MemSink {
             taken: Vec::with_capacity(alloc, room)?,
@@ -251,11 +268,19 @@ impl Sink for MemSink {
         ensures cause { HasCause self.old.faults self.new.faults result }
 
         // Exactly the listed calls fail, and those that find no room for a byte.
-        ensures fails { (IsTrue (is_listed self.old.failing self.old.calls) ⊎ IsFull self.old bytes.now) ↔ IsErr result }
-        ensures gives { IfOk result (λ n. n ≡ min self.old.piece (min (length bytes.now) (self.old.room - length self.old.taken))) }
+        ensures fails { (IsTrue (is_listed self.old.failing self.old.calls) ⊎ IsFull self.old bytes.now)
+            ↔ IsErr result }
+        ensures gives { IfOk result
+            (λ n. n ≡ min self.old.piece (min (length bytes.now) (self.old.room - length self.old.taken))) }
         ensures after { MatchResult result
-            (λ n. self.new ≡ record self.old { taken = self.old.taken ++ take n bytes.now; waiting = self.old.waiting + n; calls = one_more self.old.calls })
-            (λ _. self.new ≡ record self.old { calls = one_more self.old.calls; faults = one_more self.old.faults }) }
+            (λ n. self.new
+            ≡ record self.old {
+              taken = self.old.taken ++ take n bytes.now;
+              waiting = self.old.waiting + n;
+              calls = one_more self.old.calls;
+            })
+            (λ _. self.new
+            ≡ record self.old { calls = one_more self.old.calls; faults = one_more self.old.faults }) }
     {
         let fails = self.is_failing();
         let left = self.room - self.taken.len();
@@ -279,7 +304,8 @@ impl Sink for MemSink {
         ensures fails { IsTrue (is_listed self.old.failing self.old.calls) ↔ IsErr result }
         ensures after { MatchResult result
             (λ _. self.new ≡ record self.old { waiting = 0; calls = one_more self.old.calls })
-            (λ _. self.new ≡ record self.old { calls = one_more self.old.calls; faults = one_more self.old.faults }) }
+            (λ _. self.new
+            ≡ record self.old { calls = one_more self.old.calls; faults = one_more self.old.faults }) }
     {
         if self.is_failing() {
             return Err(self.fault());

@@ -70,10 +70,10 @@ impl<R: Read + Drop> Source for StdSource<R> {
 
 /// A sink over a writer. It tells no bytes to code that is generic over sinks.
 ///
-/// It collects up to 8,192 bytes, which wait. It writes them out at the first `give` of bytes that finds no room,
-/// and in `done`, which flushes the writer too. Each error of the writer is a fault, and so is a write of no
-/// bytes; what wasn't written still waits then, and the call can be made again. Bytes that wait when it is
-/// dropped are lost.
+/// It collects up to 8,192 bytes, which wait. It writes them out at the first `give` of bytes that finds no
+/// room, and in `done`, which flushes the writer too. Each error of the writer is a fault, and so is a write
+/// of no bytes; what wasn't written still waits then, and the call can be made again. Bytes that wait when it
+/// is dropped are lost.
 #[derive(Drop)]
 pub struct StdSink<W: Write + Drop> {
     writer: CountedWriter<W>,
@@ -102,7 +102,8 @@ impl<W: Write + Drop> Model for StdSink<W> {
 fn write_out<W: Write + Drop>(writer: &mut CountedWriter<W>, buffer: &[u8], len: usize) -> usize
     requires { len ≤ length buffer.now }
     ensures within { result ≤ len }
-    ensures written { Appends (W.contents writer.old.writer) (W.contents writer.new.writer) (take result buffer.now) }
+    ensures written { Appends (W.contents writer.old.writer) (W.contents writer.new.writer)
+        (take result buffer.now) }
     ensures whole { result ≡ len → writer.new.errors ≡ writer.old.errors }
     ensures error { result < len → writer.new.errors ≡ one_more writer.old.errors }
     ensures later { writer.old.errors ≤ writer.new.errors }
@@ -200,10 +201,13 @@ impl<W: Write + Drop> Sink for StdSink<W> {
         ensures waits { WaitsAtMost self.old.waiting self.new.waiting result }
         ensures cause { HasCause self.old.faults self.new.faults result }
 
-        // It takes as many bytes as have room, and these wait. It fails only where no room was left for a byte.
+        // It takes as many bytes as have room, and these wait. It fails only where no room was left for a
+        // byte.
         // No byte is lost, where the writer tells those that it holds, and each error counts.
-        ensures takes { IfOk result (λ n. n ≡ min (8192 - waiting_before self.old.waiting) (length bytes.now)) }
-        ensures collects { 0 < length bytes.now → IfOk result (λ n. self.new.waiting ≡ waiting_before self.old.waiting + n) }
+        ensures takes { IfOk result
+            (λ n. n ≡ min (8192 - waiting_before self.old.waiting) (length bytes.now)) }
+        ensures collects { 0 < length bytes.now
+            → IfOk result (λ n. self.new.waiting ≡ waiting_before self.old.waiting + n) }
         ensures full { IsErr result → (self.old.waiting ≡ 8192) × (0 < length bytes.now) }
         ensures written { WriteAppends self.old.taken self.new.taken result bytes.now }
         ensures errors { CountsErrors self.old.faults self.new.faults result }

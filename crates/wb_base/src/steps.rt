@@ -5,8 +5,8 @@ use std::sync::ledger::{Blank, Book, Ledger, Share};
 
 /// A count of steps, for promises on how many there are. It has no bytes when the program runs.
 ///
-/// It is a number, and only [`Steps::tick`] changes it. A function that takes a counter says what it counts as
-/// a step. Each counter belongs to a ledger: opening the ledger makes it.
+/// It is a number, and only [`Steps::tick`] changes it. A function that takes a counter says what it counts
+/// as a step. Each counter belongs to a ledger: opening the ledger makes it.
 #[derive(Drop)]
 pub struct Steps<L: Ledger> {
     book: Book<L>,

@@ -6,10 +6,19 @@ use Rattle.braid_word.proofs.reader.index_of.Goals as goal
 pub loop-byte-preserved : goal.loop-byte-preserved
 loop-byte-preserved c =
     record {
-      read = omega (arith, digits_value_step c.args.digits.now c.loop-byte.byte-index c.requires (omega arith));
+      read = omega (
+        arith,
+        digits_value_step c.args.digits.now c.loop-byte.byte-index c.requires
+            (omega arith),
+      );
       within = omega arith;
     }
 
 pub returns-then-index-gt-MAX_INDEX : goal.returns-then-index-gt-MAX_INDEX
 returns-then-index-gt-MAX_INDEX c =
-    λ small. omega (arith, digits_value_step c.args.digits.now c.loop-byte.byte-index c.requires (omega arith), digits_value-take-le 10 c.args.digits.now (c.loop-byte.byte-index + 1) (omega arith), small.1)
+    λ small. omega (
+      arith,
+      digits_value_step c.args.digits.now c.loop-byte.byte-index c.requires (omega arith),
+      digits_value-take-le 10 c.args.digits.now (c.loop-byte.byte-index + 1) (omega arith),
+      small.1,
+    )

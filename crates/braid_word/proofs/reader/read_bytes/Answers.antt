@@ -20,7 +20,8 @@ loop-byte-preserved c =
     elim c.if-byte-ne32.branch [
       | then-byte-ne32+in_ok-letter+in_ok-keep w ↦
           rw (w.letters-is, w.count-is)
-          (IsReadTo-letter so_far (omega arith) w.if-byte-ne32.true (sym w.in_ok-letter.ensures) w.in_ok-keep.ensures)
+          (IsReadTo-letter so_far (omega arith) w.if-byte-ne32.true (sym w.in_ok-letter.ensures)
+          w.in_ok-keep.ensures)
       | else-byte-ne32 w ↦
           rw (w.letters-is, w.count-is)
           (IsReadTo-space so_far (omega arith) (omega (arith, w.if-byte-ne32.false)))

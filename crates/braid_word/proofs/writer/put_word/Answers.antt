@@ -6,11 +6,13 @@ use Rattle.braid_word.proofs.writer.put_word.Goals as goal
 
 pub returns-in_err-put_letter-in-len1-up-clause-took : goal.returns-in_err-put_letter-in-len1-up-clause-took
 returns-in_err-put_letter-in-len1-up-clause-took g c =
-    Puts-stopped _ _ _ _ _ _ (word_text-first _ _ c.in-len1-up.len_at_least c.first-item.is) c.from_residual.ensures.0 c.in_err-put_letter-in-len1-up.ensures.took
+    Puts-stopped _ _ _ _ _ _ (word_text-first _ _ c.in-len1-up.len_at_least c.first-item.is)
+    c.from_residual.ensures.0 c.in_err-put_letter-in-len1-up.ensures.took
 
 pub returns-in_ok-put_letter-in-len1-up-clause-took : goal.returns-in_ok-put_letter-in-len1-up-clause-took
 returns-in_ok-put_letter-in-len1-up-clause-took g c =
-    Puts-more _ _ _ _ _ _ _ (word_text-first _ _ c.in-len1-up.len_at_least c.first-item.is) c.in_ok-put_letter-in-len1-up.ensures.took c.put_rest.ensures.took
+    Puts-more _ _ _ _ _ _ _ (word_text-first _ _ c.in-len1-up.len_at_least c.first-item.is)
+    c.in_ok-put_letter-in-len1-up.ensures.took c.put_rest.ensures.took
 
 pub returns-in-empty-clause-took : goal.returns-in-empty-clause-took
 returns-in-empty-clause-took g c = rw (word_text-empty _ c.in-empty.len_below) (sym (append_known-nil _))

@@ -7,7 +7,8 @@ pub passing-init : goal.passing-init
 passing-init c = pass_begins _ _ _ _ c.requires.empty c.requires.ready c.requires.order
 
 pub greedy_pair-moved-requires : goal.greedy_pair-moved-requires
-greedy_pair-moved-requires c = record { equal = pass_sizes _ _ _ _ _ _ _ c.passing.invariant c.in-Some.ensures.items }
+greedy_pair-moved-requires c =
+    record { equal = pass_sizes _ _ _ _ _ _ _ c.passing.invariant c.in-Some.ensures.items }
 
 pub returns-then-not-moved-clause-taken : goal.returns-then-not-moved-clause-taken
 returns-then-not-moved-clause-taken c =
@@ -17,7 +18,8 @@ returns-then-not-moved-clause-taken c =
 
 pub passing-preserved : goal.passing-preserved
 passing-preserved c =
-    pass_turn _ _ _ _ c.passing.stack.items _ _ _ _ _ c.passing.invariant (λ e. false≢true (c.passing-test.ensures.1 e))
+    pass_turn _ _ _ _ c.passing.stack.items _ _ _ _ _ c.passing.invariant
+    (λ e. false≢true (c.passing-test.ensures.1 e))
     c.in-Some.ensures.items c.greedy_pair-moved.ensures.moves c.greedy_pair-moved.ensures.greedy
     c.in_ok-push-4.ensures.items
 

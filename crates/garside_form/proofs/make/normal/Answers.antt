@@ -18,7 +18,8 @@ returns-in_err-normal_on-clause-refused c = rw (sym c.in_default.ensures.place) 
 pub returns-clause-only : goal.returns-clause-only
 returns-clause-only c = λ g same other.
     let made = c.in_ok-normal_on.ensures in
-    form_only c.in_ok-normal_on.field-0 g c.args.word.now (omega (arith, made.strands, c.requires.low)) made.form
+    form_only c.in_ok-normal_on.field-0 g c.args.word.now (omega (arith, made.strands, c.requires.low))
+    made.form
     (same ∙ sym made.strands) other
 
 pub returns-clause-refused : goal.returns-clause-refused

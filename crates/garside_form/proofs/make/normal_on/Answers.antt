@@ -5,7 +5,8 @@ use Rattle.garside_form.proofs.make.normal_on.Goals as goal
 pub of-requires-clause-normal : goal.of-requires-clause-normal
 of-requires-clause-normal c =
     let turns = c.in_ok-turns.ensures in
-    (normal_made c.args.n c.in_ok-turns.turns.made c.in_ok-turns.turns.inverse c.difference.result c.args.word.now
+    (normal_made c.args.n c.in_ok-turns.turns.made c.in_ok-turns.turns.inverse c.difference.result
+    c.args.word.now
     c.in_ok-turns.turns.odd _ _ turns.spelled turns.ready turns.parity c.turn_factors.ensures
     c.difference.ensures.up c.difference.ensures.down).normal
 
@@ -16,6 +17,7 @@ returns-clause-form c =
     difference_read c.in_ok-turns.turns.inverse c.in_ok-turns.turns.made _ turns.inverse turns.made
     c.difference.ensures.up c.difference.ensures.down in
     rw (c.of.ensures, read)
-    (normal_made c.args.n c.in_ok-turns.turns.made c.in_ok-turns.turns.inverse c.difference.result c.args.word.now
+    (normal_made c.args.n c.in_ok-turns.turns.made c.in_ok-turns.turns.inverse c.difference.result
+    c.args.word.now
     c.in_ok-turns.turns.odd _ _ turns.spelled turns.ready turns.parity c.turn_factors.ensures
     c.difference.ensures.up c.difference.ensures.down)

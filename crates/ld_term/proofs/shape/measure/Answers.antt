@@ -19,25 +19,30 @@ loop-piece-preserved c =
 
 pub returns-in_default-height-clause-refused : goal.returns-in_default-height-clause-refused
 returns-in_default-height-clause-refused c =
-    read-early _ _ _ _ _ _ _ _ c.loop-piece.invariant c.in_default.ensures (λ s holds. sym c.in_default-height.is ∙ c.height.ensures s holds)
+    read-early _ _ _ _ _ _ _ _ c.loop-piece.invariant c.in_default.ensures
+    (λ s holds. sym c.in_default-height.is ∙ c.height.ensures s holds)
 
 pub returns-then-height-gt-MAX_HEIGHT-clause-refused : goal.returns-then-height-gt-MAX_HEIGHT-clause-refused
 returns-then-height-gt-MAX_HEIGHT-clause-refused c =
     let small : length c.args.line.now < 2 ^ 64 = search rules in
     shape-deep _ _ _ _ _ small
-    (read-whole _ _ _ _ _ _ _ _ _ c.loop-piece.invariant c.in_default.ensures (λ s holds. sym c.in-Some-height.is ∙ c.height.ensures s holds))
+    (read-whole _ _ _ _ _ _ _ _ _ c.loop-piece.invariant c.in_default.ensures
+    (λ s holds. sym c.in-Some-height.is ∙ c.height.ensures s holds))
     c.if-height-gt-MAX_HEIGHT.true
 
-pub returns-then-products-gt-MAX_PRODUCTS-clause-refused : goal.returns-then-products-gt-MAX_PRODUCTS-clause-refused
+pub returns-then-products-gt-MAX_PRODUCTS-clause-refused
+    : goal.returns-then-products-gt-MAX_PRODUCTS-clause-refused
 returns-then-products-gt-MAX_PRODUCTS-clause-refused c =
     let small : length c.args.line.now < 2 ^ 64 = search rules in
     shape-large _ _ _ _ _ small
-    (read-whole _ _ _ _ _ _ _ _ _ c.loop-piece.invariant c.in_default.ensures (λ s holds. sym c.in-Some-height.is ∙ c.height.ensures s holds))
+    (read-whole _ _ _ _ _ _ _ _ _ c.loop-piece.invariant c.in_default.ensures
+    (λ s holds. sym c.in-Some-height.is ∙ c.height.ensures s holds))
     (omega arith) c.if-products-gt-MAX_PRODUCTS.true
 
 pub returns-clause-text : goal.returns-clause-text
 returns-clause-text c =
     let small : length c.args.line.now < 2 ^ 64 = search rules in
     shape-small _ _ _ _ _ small
-    (read-whole _ _ _ _ _ _ _ _ _ c.loop-piece.invariant c.in_default.ensures (λ s holds. sym c.in-Some-height.is ∙ c.height.ensures s holds))
+    (read-whole _ _ _ _ _ _ _ _ _ c.loop-piece.invariant c.in_default.ensures
+    (λ s holds. sym c.in-Some-height.is ∙ c.height.ensures s holds))
     (omega arith) (omega arith)

@@ -9,10 +9,12 @@ pub returns-then-is_run_byte : goal.returns-then-is_run_byte
 returns-then-is_run_byte c =
     let starts = c.next_start-start.ensures in
     let within = starts.within in
-    piece-run _ _ _ _ _ _ _ starts (omega arith) refl (sym c.is_run_byte.ensures ∙ c.if-is_run_byte.true) c.run_end-end.ensures.value c.kind_of_run-kind.ensures.token c.kind_of_run-kind.ensures.named
+    piece-run _ _ _ _ _ _ _ starts (omega arith) refl (sym c.is_run_byte.ensures ∙ c.if-is_run_byte.true)
+    c.run_end-end.ensures.value c.kind_of_run-kind.ensures.token c.kind_of_run-kind.ensures.named
 
 pub returns : goal.returns
 returns c =
     let starts = c.next_start-start.ensures in
     let within = starts.within in
-    piece-byte _ _ _ _ _ _ starts (omega arith) refl (sym c.is_run_byte.ensures ∙ c.if-is_run_byte.false) c.kind_of_byte-kind.ensures.token c.kind_of_byte-kind.ensures.named
+    piece-byte _ _ _ _ _ _ starts (omega arith) refl (sym c.is_run_byte.ensures ∙ c.if-is_run_byte.false)
+    c.kind_of_byte-kind.ensures.token c.kind_of_byte-kind.ensures.named

@@ -58,12 +58,17 @@ atom_at-requires-in-Open t c =
 
 pub skip-end-requires : goal.skip-end-requires
 skip-end-requires t c =
-    let parts = opened _ _ _ _ _ _ _ _ c.in-Some.ensures c.in-Open.is c.requires.tokens in
-    (close_bracket, _, behind-right _ _ _ _ _ _ _ _ _ _ parts c.in_ok-left-in-Open.ensures c.skip-at.ensures c.in_ok-right-in-Open.ensures)
+    let parts = opened _ _ _ _ _ _ _ _ c.in-Some.ensures c.in-Open.is c.requires.tokens in (
+      close_bracket,
+      _,
+      behind-right _ _ _ _ _ _ _ _ _ _ parts c.in_ok-left-in-Open.ensures c.skip-at.ensures
+          c.in_ok-right-in-Open.ensures,
+    )
 
 pub unreachable-requires-in_default-kind : goal.unreachable-requires-in_default-kind
 unreachable-requires-in_default-kind t c =
-    atom-other _ _ _ _ _ _ c.in_default-kind.not-Open c.in_default-kind.not-Variable c.in_default-kind.not-Name
+    atom-other _ _ _ _ _ _ c.in_default-kind.not-Open c.in_default-kind.not-Variable
+    c.in_default-kind.not-Name
     (piece-atom _ _ _ _ _ _ _ _ c.in-Some.ensures c.requires.tokens)
 
 pub returns-in-Variable : goal.returns-in-Variable

@@ -12,7 +12,8 @@ returns-then-from-numbers c = (
 
 pub loop-k-preserved : goal.loop-k-preserved
 loop-k-preserved c =
-    falling_more c.args.numbers.now c.loop-k.k c.loop-k.invariant (sym c.from.ensures ∙ c.if-from-numbers.false)
+    falling_more c.args.numbers.now c.loop-k.k c.loop-k.invariant
+    (sym c.from.ensures ∙ c.if-from-numbers.false)
 
 pub returns : goal.returns
 returns c = (

@@ -1,16 +1,18 @@
 use Rattle.std.proofs.Common.{◌-◌, ◌∙◌, arith}
 use Rattle.std.proofs.lemmas.List.{length-set}
-use Rattle.perm_braid.proofs.PassingLemmas.{place_more, place_room, place_all}
+use Rattle.perm_braid.proofs.GreedyPairLemmas.{place_more, place_room, place_all}
 use Rattle.perm_braid.proofs.entries.write_places.Goals as goal
 
 pub overflow_sub-places : goal.overflow_sub-places
 overflow_sub-places c =
-    let room = place_room c.args.numbers.now c.loop-k.k c.requires.order (omega (arith, c.loop-k-test.true)) in
+    let room = place_room c.args.numbers.now c.loop-k.k c.requires.order
+    (omega (arith, c.loop-k-test.true)) in
     omega (arith, room, c.from.ensures)
 
 pub bounds-places-from : goal.bounds-places-from
 bounds-places-from c =
-    let room = place_room c.args.numbers.now c.loop-k.k c.requires.order (omega (arith, c.loop-k-test.true)) in
+    let room = place_room c.args.numbers.now c.loop-k.k c.requires.order
+    (omega (arith, c.loop-k-test.true)) in
     omega (arith, room, c.from.ensures, c.loop-k.invariant.long)
 
 pub loop-k-preserved : goal.loop-k-preserved

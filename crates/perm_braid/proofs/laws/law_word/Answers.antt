@@ -1,4 +1,5 @@
-use Rattle.perm_braid.proofs.SimpleWordLemmas.{word_exists, word_unique, IsSimple-word, arranged-word}
+use Rattle.perm_braid.proofs.SimpleWordLemmas.{word_exists, word_unique}
+use Rattle.perm_braid.proofs.ArrangedWordLemmas.{IsSimple-word, arranged-word}
 use Rattle.perm_braid.proofs.laws.law_word.Goals as goal
 
 pub returns-clause-exists : goal.returns-clause-exists

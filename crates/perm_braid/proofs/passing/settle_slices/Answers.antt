@@ -8,6 +8,7 @@ loop-from-init c = IsSettled-begin _ _
 pub loop-from-preserved : goal.loop-from-preserved
 loop-from-preserved c =
     let sank = c.sink-sank.ensures in
-    IsSettled-step _ _ c.loop-from.entries c.loop-from.places _ _ c.loop-from.from c.loop-from.passed c.sink-sank.result
+    IsSettled-step _ _ c.loop-from.entries c.loop-from.places _ _ c.loop-from.from c.loop-from.passed
+    c.sink-sank.result
     c.loop-from.invariant (omega arith) (omega (arith, c.loop-from-test.true, c.loop-from.auto.entries))
     sank.passes sank.still sank.some sank.none

@@ -20,23 +20,31 @@ returns-in_err-left-clause-stopped t c =
 
 pub returns-in_err-right-clause-stopped : goal.returns-in_err-right-clause-stopped
 returns-in_err-right-clause-stopped t c =
-    let (e, is, same) = err_from_is_err_and c.from_residual-in_err-right.result c.from_residual-in_err-right.ensures.1 in
+    let (e, is, same) =
+    err_from_is_err_and c.from_residual-in_err-right.result c.from_residual-in_err-right.ensures.1 in
     let begins = derivation-begins _ _ _ _ c.requires.there c.in-Some.ensures in
-    rw (is, same) (second-stopped _ _ _ _ _ begins _ _ c.in_ok-left.ensures.made _ _ c.in_err-right.ensures.stopped)
+    rw (is, same)
+    (second-stopped _ _ _ _ _ begins _ _ c.in_ok-left.ensures.made _ _ c.in_err-right.ensures.stopped)
 
 pub returns-in_err-number-clause-stopped : goal.returns-in_err-number-clause-stopped
 returns-in_err-number-clause-stopped t c =
-    let (e, is, same) = err_from_is_err_and c.from_residual-in_err-number.result c.from_residual-in_err-number.ensures.1 in
+    let (e, is, same) =
+    err_from_is_err_and c.from_residual-in_err-number.result c.from_residual-in_err-number.ensures.1 in
     let begins = derivation-begins _ _ _ _ c.requires.there c.in-Some.ensures in
     let parts = parts-made _ _ _ _ _ begins _ _ c.in_ok-left.ensures.made _ _ c.in_ok-right.ensures.made in
-    rw (is, same) (distribution-stopped _ _ _ _ c.requires.there c.in-Some.ensures _ _ _ parts _ _ c.in_err-number.ensures.stopped)
+    rw (is, same)
+    (distribution-stopped _ _ _ _ c.requires.there c.in-Some.ensures _ _ _ parts _ _
+    c.in_err-number.ensures.stopped)
 
 pub returns-in_err-remember-clause-stopped : goal.returns-in_err-remember-clause-stopped
 returns-in_err-remember-clause-stopped t c =
-    let (e, is, same) = err_from_is_err_and c.from_residual-in_err-remember.result c.from_residual-in_err-remember.ensures.1 in
+    let (e, is, same) =
+    err_from_is_err_and c.from_residual-in_err-remember.result
+    c.from_residual-in_err-remember.ensures.1 in
     let begins = derivation-begins _ _ _ _ c.requires.there c.in-Some.ensures in
     let parts = parts-made _ _ _ _ _ begins _ _ c.in_ok-left.ensures.made _ _ c.in_ok-right.ensures.made in
-    let done = distribution-made _ _ _ _ c.requires.there c.in-Some.ensures _ _ _ parts _ _ c.in_ok-number.ensures.made in
+    let done = distribution-made _ _ _ _ c.requires.there c.in-Some.ensures _ _ _ parts _ _
+    c.in_ok-number.ensures.made in
     rw (is, same) (IsStopped-memory _ _ _ done.asked)
 
 -- the derivation is made

@@ -14,7 +14,8 @@ returns-in_default-clause-memo t c =
 
 pub returns-in-Some-find-clause-made : goal.returns-in-Some-find-clause-made
 returns-in-Some-find-clause-made t c =
-    IsAnswer-made _ _ _ (rw (c.index.ensures, c.index-2.ensures) at (c.in-Some-find.ensures c.args.graph.now c.requires.memo))
+    IsAnswer-made _ _ _
+    (rw (c.index.ensures, c.index-2.ensures) at (c.in-Some-find.ensures c.args.graph.now c.requires.memo))
 
 pub returns-in_err-left-clause-stopped : goal.returns-in_err-left-clause-stopped
 returns-in_err-left-clause-stopped t c =
@@ -24,24 +25,32 @@ returns-in_err-left-clause-stopped t c =
 
 pub returns-in_err-right-clause-stopped : goal.returns-in_err-right-clause-stopped
 returns-in_err-right-clause-stopped t c =
-    let (e, is, same) = err_from_is_err_and c.from_residual-in_err-right.result c.from_residual-in_err-right.ensures.1 in
+    let (e, is, same) =
+    err_from_is_err_and c.from_residual-in_err-right.result c.from_residual-in_err-right.ensures.1 in
     let begins = distribution-begins _ _ _ _ _ c.requires.left c.requires.right c.in-Some.ensures in
-    rw (is, same) (second-stopped _ _ _ _ _ begins _ _ c.in_ok-left.ensures.made _ _ c.in_err-right.ensures.stopped)
+    rw (is, same)
+    (second-stopped _ _ _ _ _ begins _ _ c.in_ok-left.ensures.made _ _ c.in_err-right.ensures.stopped)
 
 pub returns-in_err-number-clause-stopped : goal.returns-in_err-number-clause-stopped
 returns-in_err-number-clause-stopped t c =
-    let (e, is, same) = err_from_is_err_and c.from_residual-in_err-number.result c.from_residual-in_err-number.ensures.1 in
+    let (e, is, same) =
+    err_from_is_err_and c.from_residual-in_err-number.result c.from_residual-in_err-number.ensures.1 in
     let begins = distribution-begins _ _ _ _ _ c.requires.left c.requires.right c.in-Some.ensures in
     let parts = parts-made _ _ _ _ _ begins _ _ c.in_ok-left.ensures.made _ _ c.in_ok-right.ensures.made in
-    rw (is, same) (last-stopped _ _ _ _ _ c.requires.left c.requires.right c.in-Some.ensures _ _ _ parts _ _ c.in_err-number.ensures.refused c.in_err-number.ensures.unchanged)
+    rw (is, same)
+    (last-stopped _ _ _ _ _ c.requires.left c.requires.right c.in-Some.ensures _ _ _ parts _ _
+    c.in_err-number.ensures.refused c.in_err-number.ensures.unchanged)
 
 pub returns-in_err-remember-clause-stopped : goal.returns-in_err-remember-clause-stopped
 returns-in_err-remember-clause-stopped t c =
-    let (e, is, same) = err_from_is_err_and c.from_residual-in_err-remember.result c.from_residual-in_err-remember.ensures.1 in
+    let (e, is, same) =
+    err_from_is_err_and c.from_residual-in_err-remember.result
+    c.from_residual-in_err-remember.ensures.1 in
     let begins = distribution-begins _ _ _ _ _ c.requires.left c.requires.right c.in-Some.ensures in
     let parts = parts-made _ _ _ _ _ begins _ _ c.in_ok-left.ensures.made _ _ c.in_ok-right.ensures.made in
     let number = c.in_ok-number.ensures.number in
-    let done = product-made _ _ _ _ _ c.requires.left c.requires.right c.in-Some.ensures _ _ _ parts _ _ number.0 number.1 c.in_ok-number.ensures.asked in
+    let done = product-made _ _ _ _ _ c.requires.left c.requires.right c.in-Some.ensures _ _ _ parts _ _
+    number.0 number.1 c.in_ok-number.ensures.asked in
     rw (is, same) (IsStopped-memory _ _ _ done.asked)
 
 -- the distribution is made
@@ -52,7 +61,8 @@ made t c =
     let begins = distribution-begins _ _ _ _ _ c.requires.left c.requires.right c.in-Some.ensures in
     let parts = parts-made _ _ _ _ _ begins _ _ c.in_ok-left.ensures.made _ _ c.in_ok-right.ensures.made in
     let number = c.in_ok-number.ensures.number in
-    product-made _ _ _ _ _ c.requires.left c.requires.right c.in-Some.ensures _ _ _ parts _ _ number.0 number.1 c.in_ok-number.ensures.asked
+    product-made _ _ _ _ _ c.requires.left c.requires.right c.in-Some.ensures _ _ _ parts _ _ number.0
+    number.1 c.in_ok-number.ensures.asked
 
 pub returns-clause-made : goal.returns-clause-made
 returns-clause-made t c = made t c
@@ -60,6 +70,7 @@ returns-clause-made t c = made t c
 pub returns-clause-memo : goal.returns-clause-memo
 returns-clause-memo t c =
     let memo = c.distribute_by-2.new.memo in
-    let kept = IsMemo-product _ _ c.in_ok-left.left c.in_ok-right.right memo (Ok c.in_ok-number.number) c.in_ok-number.ensures.asked c.in_ok-right.ensures.memo in
+    let kept = IsMemo-product _ _ c.in_ok-left.left c.in_ok-right.right memo (Ok c.in_ok-number.number)
+    c.in_ok-number.ensures.asked c.in_ok-right.ensures.memo in
     let answer = IsMade-answer _ _ _ _ (c.requires.left, c.requires.right) (made t c) in
     c.in_ok-remember.ensures c.product-2.new.self kept (rw (c.index.ensures, c.index-2.ensures) answer)

@@ -6,12 +6,14 @@ use Rattle.term_graph.proofs.listing.+list_products.Goals as goal
 
 pub returns-then-places-index-gt0-clause-listed : goal.returns-then-places-index-gt0-clause-listed
 returns-then-places-index-gt0-clause-listed t c =
-    let place : 0 < place_of c.args.places.now c.args.a = subst (λ z. 0 < place_of c.args.places.now z) c.index.ensures c.if-places-index-gt0.true in
+    let place : 0 < place_of c.args.places.now c.args.a =
+    subst (λ z. 0 < place_of c.args.places.now z) c.index.ensures c.if-places-index-gt0.true in
     begun-listed _ _ _ c.requires.begun _ c.requires.there place
 
 pub overflow_cast-places : goal.overflow_cast-places
 overflow_cast-places t c =
-    let small = begun-small _ _ _ _ _ c.len.result c.in_ok-list_products-2.ensures.begun c.in_ok-push.ensures.items
+    let small = begun-small _ _ _ _ _ c.len.result c.in_ok-list_products-2.ensures.begun
+    c.in_ok-push.ensures.items
     (c.len.ensures ∙ c.push.new.self.ok.0) in
     omega (arith, small)
 

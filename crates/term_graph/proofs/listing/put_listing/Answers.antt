@@ -16,27 +16,31 @@ pub returns-in_err-put_products-clause-took : goal.returns-in_err-put_products-c
 unfolding listing_text
 returns-in_err-put_products-clause-took g c =
     let root = term_at c.args.graph.now c.args.listing.now.root in
-    Puts-stopped _ _ _ _ (product_lines (distinct_products root) 1 (distinct_products root)) (line (name_text (distinct_products root) root))
+    Puts-stopped _ _ _ _ (product_lines (distinct_products root) 1 (distinct_products root))
+    (line (name_text (distinct_products root) root))
     refl c.from_residual.ensures.0 c.in_err-put_products.ensures.took
 
 pub returns-in_err-put_products-clause-waits : goal.returns-in_err-put_products-clause-waits
 unfolding listing_text
 returns-in_err-put_products-clause-waits g c =
     let root = term_at c.args.graph.now c.args.listing.now.root in
-    waits-stopped _ _ _ (product_lines (distinct_products root) 1 (distinct_products root)) (line (name_text (distinct_products root) root))
+    waits-stopped _ _ _ (product_lines (distinct_products root) 1 (distinct_products root))
+    (line (name_text (distinct_products root) root))
     refl c.in_err-put_products.ensures.waits
 
 pub returns-in_err-put_name-clause-took : goal.returns-in_err-put_name-clause-took
 returns-in_err-put_name-clause-took g c =
     let root = term_at c.args.graph.now c.args.listing.now.root in
-    Puts-stopped_after _ _ _ _ _ (product_lines (distinct_products root) 1 (distinct_products root)) (name_text (distinct_products root) root) (10 ∷ [])
+    Puts-stopped_after _ _ _ _ _ (product_lines (distinct_products root) 1 (distinct_products root))
+    (name_text (distinct_products root) root) (10 ∷ [])
     (listing_text-parts root) c.from_residual-in_err-put_name.ensures.0 c.in_ok-put_products.ensures.took
     (rw c.root.ensures at c.in_err-put_name.ensures.took)
 
 pub returns-in_err-put_name-clause-waits : goal.returns-in_err-put_name-clause-waits
 returns-in_err-put_name-clause-waits g c =
     let root = term_at c.args.graph.now c.args.listing.now.root in
-    waits-stopped_after _ _ _ _ (product_lines (distinct_products root) 1 (distinct_products root)) (name_text (distinct_products root) root) (10 ∷ [])
+    waits-stopped_after _ _ _ _ (product_lines (distinct_products root) 1 (distinct_products root))
+    (name_text (distinct_products root) root) (10 ∷ [])
     (listing_text-parts root) c.in_ok-put_products.ensures.waits
     (rw c.root.ensures at c.in_err-put_name.ensures.waits)
 
@@ -45,7 +49,8 @@ returns-clause-took g c =
     let root = term_at c.args.graph.now c.args.listing.now.root in
     let lines = product_lines (distinct_products root) 1 (distinct_products root) in
     let name = name_text (distinct_products root) root in
-    let both = append_known-two _ _ _ lines name c.in_ok-put_products.ensures.took (rw c.root.ensures at c.in_ok-put_name.ensures.took) in
+    let both = append_known-two _ _ _ lines name c.in_ok-put_products.ensures.took
+    (rw c.root.ensures at c.in_ok-put_name.ensures.took) in
     Puts-more _ _ _ _ _ (lines ++ name) (10 ∷ []) (listing_text-parts root) both c.give_all.ensures.took
 
 pub returns-clause-waits : goal.returns-clause-waits
@@ -53,5 +58,6 @@ returns-clause-waits g c =
     let root = term_at c.args.graph.now c.args.listing.now.root in
     let lines = product_lines (distinct_products root) 1 (distinct_products root) in
     let name = name_text (distinct_products root) root in
-    let both = waits-more _ _ _ _ lines name refl c.in_ok-put_products.ensures.waits (rw c.root.ensures at c.in_ok-put_name.ensures.waits) in
+    let both = waits-more _ _ _ _ lines name refl c.in_ok-put_products.ensures.waits
+    (rw c.root.ensures at c.in_ok-put_name.ensures.waits) in
     waits-more _ _ _ _ (lines ++ name) (10 ∷ []) (listing_text-parts root) both c.give_all.ensures.waits

@@ -12,19 +12,25 @@ returns-in-Err-clause-refused c =
 pub returns-then-is_some-clause-refused : goal.returns-then-is_some-clause-refused
 returns-then-is_some-clause-refused c =
     let d = c.in-Ok.definition in
-    inr (line-twice _ _ _ (definition d.name d.place (written d.term)) c.in-Ok.ensures.definition _ c.in-Ok.ensures.small
-    (twice-some _ _ d.name d.place (written d.term) (ap is_some (sym c.find.ensures) ∙ sym c.is_some.ensures ∙ c.if-is_some.true)))
+    inr (line-twice _ _ _ (definition d.name d.place (written d.term)) c.in-Ok.ensures.definition _
+    c.in-Ok.ensures.small
+    (twice-some _ _ d.name d.place (written d.term)
+    (ap is_some (sym c.find.ensures) ∙ sym c.is_some.ensures ∙ c.if-is_some.true)))
 
 pub returns-in-None-clause-sound : goal.returns-in-None-clause-sound
 returns-in-None-clause-sound c =
     let d = c.in-Ok.definition in
-    line-sound _ _ _ (definition d.name d.place (written d.term)) c.in-Ok.ensures.definition c.in-Ok.ensures.small
-    (twice-none _ _ d.name d.place (written d.term) (ap is_some (sym c.find.ensures) ∙ sym c.is_some.ensures ∙ c.if-is_some.false))
+    line-sound _ _ _ (definition d.name d.place (written d.term)) c.in-Ok.ensures.definition
+    c.in-Ok.ensures.small
+    (twice-none _ _ d.name d.place (written d.term)
+    (ap is_some (sym c.find.ensures) ∙ sym c.is_some.ensures ∙ c.if-is_some.false))
     (sym c.first_unknown.ensures ∙ c.in-None.is)
 
 pub returns-in-Some-clause-refused : goal.returns-in-Some-clause-refused
 returns-in-Some-clause-refused c =
     let d = c.in-Ok.definition in
-    inr (line-unknown _ _ _ (definition d.name d.place (written d.term)) c.in-Ok.ensures.definition _ c.in-Ok.ensures.small
-    (twice-none _ _ d.name d.place (written d.term) (ap is_some (sym c.find.ensures) ∙ sym c.is_some.ensures ∙ c.if-is_some.false))
+    inr (line-unknown _ _ _ (definition d.name d.place (written d.term)) c.in-Ok.ensures.definition _
+    c.in-Ok.ensures.small
+    (twice-none _ _ d.name d.place (written d.term)
+    (ap is_some (sym c.find.ensures) ∙ sym c.is_some.ensures ∙ c.if-is_some.false))
     (sym c.first_unknown.ensures ∙ c.in-Some.is))

@@ -11,8 +11,10 @@ returns-in-Err-clause-refused c =
 
 pub returns-in-None-clause-sound : goal.returns-in-None-clause-sound
 returns-in-None-clause-sound c =
-    line-sound _ _ _ (closing (written c.in-Ok.term)) c.in-Ok.ensures.tree c.in-Ok.ensures.small refl (sym c.first_unknown.ensures ∙ c.in-None.is)
+    line-sound _ _ _ (closing (written c.in-Ok.term)) c.in-Ok.ensures.tree c.in-Ok.ensures.small refl
+    (sym c.first_unknown.ensures ∙ c.in-None.is)
 
 pub returns-in-Some-clause-refused : goal.returns-in-Some-clause-refused
 returns-in-Some-clause-refused c =
-    inr (line-unknown _ _ _ (closing (written c.in-Ok.term)) c.in-Ok.ensures.tree _ c.in-Ok.ensures.small refl (sym c.first_unknown.ensures ∙ c.in-Some.is))
+    inr (line-unknown _ _ _ (closing (written c.in-Ok.term)) c.in-Ok.ensures.tree _ c.in-Ok.ensures.small refl
+    (sym c.first_unknown.ensures ∙ c.in-Some.is))

@@ -6,11 +6,13 @@ use Rattle.wb_base.proofs.number.put_signed.Goals as goal
 
 pub returns-in_err-put_sign-clause-took : goal.returns-in_err-put_sign-clause-took
 returns-in_err-put_sign-clause-took g c =
-    Puts-stopped _ _ _ _ (sign_text c.args.negative) (decimal c.args.value) refl c.from_residual.ensures.0 c.in_err-put_sign.ensures.took
+    Puts-stopped _ _ _ _ (sign_text c.args.negative) (decimal c.args.value) refl c.from_residual.ensures.0
+    c.in_err-put_sign.ensures.took
 
 pub returns-clause-took : goal.returns-clause-took
 returns-clause-took g c =
-    Puts-more _ _ _ _ _ (sign_text c.args.negative) (decimal c.args.value) refl c.in_ok-put_sign.ensures.took c.put_number.ensures.took
+    Puts-more _ _ _ _ _ (sign_text c.args.negative) (decimal c.args.value) refl c.in_ok-put_sign.ensures.took
+    c.put_number.ensures.took
 
 pub returns-in_err-put_sign-clause-waits : goal.returns-in_err-put_sign-clause-waits
 returns-in_err-put_sign-clause-waits g c =

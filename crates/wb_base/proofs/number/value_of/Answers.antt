@@ -9,4 +9,5 @@ loop-byte-preserved c =
 
 pub returns-then-value-digit : goal.returns-then-value-digit
 returns-then-value-digit c =
-    digits_value_past c.args.digits.now c.loop-byte.byte-index (2 ^ 64 - 1) c.from-digit.result c.requires (omega arith) (omega arith) (omega arith)
+    digits_value_past c.args.digits.now c.loop-byte.byte-index (2 ^ 64 - 1) c.from-digit.result c.requires
+    (omega arith) (omega arith) (omega arith)

@@ -8,7 +8,8 @@ invariant-loop-written g l =
     let writer = g.W.Write in
     record {
       within : l.written ≤ l.len;
-      wrote : Appends (writer.contents l.fn.writer.writer) (writer.contents l.writer.writer) (take l.written l.buffer);
+      wrote : Appends (writer.contents l.fn.writer.writer) (writer.contents l.writer.writer)
+          (take l.written l.buffer);
       unfailed : l.writer.errors ≡ l.fn.writer.errors;
     }
 

@@ -4,7 +4,8 @@ use Rattle.wb_base.proofs.stream.give_all.Goals as goal
 
 pub returns-in_err-given-clause-took : goal.returns-in_err-given-clause-took
 returns-in_err-given-clause-took g c =
-    Puts-take _ _ _ _ c.loop-given.given c.from_residual.ensures.0 (c.in_err-given.ensures.took ∙ c.loop-given.invariant.took)
+    Puts-take _ _ _ _ c.loop-given.given c.from_residual.ensures.0
+    (c.in_err-given.ensures.took ∙ c.loop-given.invariant.took)
 
 pub loop-given-preserved : goal.loop-given-preserved
 loop-given-preserved g c =

@@ -5,7 +5,8 @@ use Rattle.wb_base.proofs.text.put_line.Goals as goal
 
 pub returns-in_err-give_all-clause-took : goal.returns-in_err-give_all-clause-took
 returns-in_err-give_all-clause-took g c =
-    Puts-stopped _ _ _ _ c.args.text.now (10 ∷ []) refl c.from_residual.ensures.0 c.in_err-give_all.ensures.took
+    Puts-stopped _ _ _ _ c.args.text.now (10 ∷ []) refl c.from_residual.ensures.0
+    c.in_err-give_all.ensures.took
 
 pub returns-clause-took : goal.returns-clause-took
 returns-clause-took g c =

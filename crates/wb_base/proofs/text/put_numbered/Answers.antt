@@ -5,11 +5,13 @@ use Rattle.wb_base.proofs.text.put_numbered.Goals as goal
 
 pub returns-in_err-give_all-clause-took : goal.returns-in_err-give_all-clause-took
 returns-in_err-give_all-clause-took g c =
-    Puts-stopped _ _ _ _ c.args.text.now (decimal c.args.number) refl c.from_residual.ensures.0 c.in_err-give_all.ensures.took
+    Puts-stopped _ _ _ _ c.args.text.now (decimal c.args.number) refl c.from_residual.ensures.0
+    c.in_err-give_all.ensures.took
 
 pub returns-clause-took : goal.returns-clause-took
 returns-clause-took g c =
-    Puts-more _ _ _ _ _ c.args.text.now (decimal c.args.number) refl c.in_ok-give_all.ensures.took c.put_number.ensures.took
+    Puts-more _ _ _ _ _ c.args.text.now (decimal c.args.number) refl c.in_ok-give_all.ensures.took
+    c.put_number.ensures.took
 
 pub returns-in_err-give_all-clause-waits : goal.returns-in_err-give_all-clause-waits
 returns-in_err-give_all-clause-waits g c =

@@ -5,11 +5,13 @@ use Rattle.wb_base.proofs.text.put_numbered_line.Goals as goal
 
 pub returns-in_err-put_numbered-clause-took : goal.returns-in_err-put_numbered-clause-took
 returns-in_err-put_numbered-clause-took g c =
-    Puts-stopped _ _ _ _ (c.args.text.now ++ decimal c.args.number) (10 ∷ []) refl c.from_residual.ensures.0 c.in_err-put_numbered.ensures.took
+    Puts-stopped _ _ _ _ (c.args.text.now ++ decimal c.args.number) (10 ∷ []) refl c.from_residual.ensures.0
+    c.in_err-put_numbered.ensures.took
 
 pub returns-clause-took : goal.returns-clause-took
 returns-clause-took g c =
-    Puts-more _ _ _ _ _ (c.args.text.now ++ decimal c.args.number) (10 ∷ []) refl c.in_ok-put_numbered.ensures.took c.give_all.ensures.took
+    Puts-more _ _ _ _ _ (c.args.text.now ++ decimal c.args.number) (10 ∷ []) refl
+    c.in_ok-put_numbered.ensures.took c.give_all.ensures.took
 
 pub returns-in_err-put_numbered-clause-waits : goal.returns-in_err-put_numbered-clause-waits
 returns-in_err-put_numbered-clause-waits g c =

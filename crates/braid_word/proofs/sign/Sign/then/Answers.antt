@@ -1,7 +1,7 @@
 -- The letter is higher than the least index, has it with the one sign before or not, or is lower.
 use Rattle.std.proofs.Common.{◌≡◌, ap, sym, ◌∙◌, arith, rules}
 use Rattle.braid_word.specs.Words.{Letter}
-use Rattle.braid_word.proofs.SignLemmas.{sign_of-append_lower, sign_of-append_mixed, sign_of-append_alike, sign_of-append_higher}
+use Rattle.braid_word.proofs.SignAppendLemmas.{sign_of-append_lower, sign_of-append_mixed, sign_of-append_alike, sign_of-append_higher}
 use Rattle.braid_word.proofs.sign.Sign.then.Goals as goal
 
 pub returns-in-Some : goal.returns-in-Some

@@ -7,4 +7,5 @@ pub returns : goal.returns
 returns c = λ strict s held.
     let old = c.args.self.now in
     rw (c.in-None.is, c.in_ok-push.ensures.items)
-    (moves-open strict s old.left old.outer.items (subst (λ h. IsHeld h old.left old.outer.items s) c.in-None.is held))
+    (moves-open strict s old.left old.outer.items
+    (subst (λ h. IsHeld h old.left old.outer.items s) c.in-None.is held))

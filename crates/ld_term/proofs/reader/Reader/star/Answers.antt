@@ -9,8 +9,10 @@ pub returns : goal.returns
 returns c = λ s held.
     let old = c.args.self.now in
     moves-star c.args.strict s c.in-Some.height old.outer.items
-    (subst (λ l. IsHeld (Some c.in-Some.height) l old.outer.items s) c.in-None.is (subst (λ h. IsHeld h old.left old.outer.items s) c.in-Some.is held))
+    (subst (λ l. IsHeld (Some c.in-Some.height) l old.outer.items s) c.in-None.is
+    (subst (λ h. IsHeld h old.left old.outer.items s) c.in-Some.is held))
     (λ on none. elim c.else-strict.branch [
-      | else-strict-via-then-strict+else-is_empty w ↦ false≢true (w.if-is_empty.ensures ∙ eq-eqb (vec_len old.outer) 0 (old.outer.ok.0 ∙ ap length none))
+      | else-strict-via-then-strict+else-is_empty w ↦
+          false≢true (w.if-is_empty.ensures ∙ eq-eqb (vec_len old.outer) 0 (old.outer.ok.0 ∙ ap length none))
       | else-strict-via-else-strict w ↦ false≢true (sym w.if-strict.false ∙ on)
     ])

@@ -1,5 +1,5 @@
 use Rattle.std.proofs.Common.{◌+◌, refl, arith}
-use Rattle.perm_braid.proofs.EntryLemmas.{place_fits, places_fit, Exchanged-before}
+use Rattle.perm_braid.proofs.EntryPlaceLemmas.{place_fits, places_fit, Exchanged-before}
 use Rattle.perm_braid.proofs.perm.Perm.before.Goals as goal
 
 pub entry_at-first-requires-clause-high : goal.entry_at-first-requires-clause-high
@@ -14,7 +14,8 @@ entry_at-second-requires-clause-high c =
 
 pub exchange-requires-clause-first : goal.exchange-requires-clause-first
 exchange-requires-clause-first c =
-    place_fits c.args.self.now _ _ c.args.i _ c.self.view_is c.self.invariant c.as_slice-places.ensures c.requires.low
+    place_fits c.args.self.now _ _ c.args.i _ c.self.view_is c.self.invariant c.as_slice-places.ensures
+    c.requires.low
     (omega (arith, c.requires.high)) c.entry_at-first.ensures
 
 pub exchange-requires-clause-second : goal.exchange-requires-clause-second
@@ -38,7 +39,8 @@ invariant_of-self c =
     let made =
     Exchanged-before c.args.self.now _ c.args.i _ _ c.self.view_is c.self.invariant c.as_slice-places.ensures
     c.requires.low
-    c.requires.high c.entry_at-first.ensures c.entry_at-second.ensures c.exchange.ensures c.exchange-2.ensures in
+    c.requires.high c.entry_at-first.ensures c.entry_at-second.ensures c.exchange.ensures
+    c.exchange-2.ensures in
     (made.arrangement, made.places)
 
 pub returns : goal.returns
@@ -46,5 +48,6 @@ returns c =
     let made =
     Exchanged-before c.args.self.now _ c.args.i _ _ c.self.view_is c.self.invariant c.as_slice-places.ensures
     c.requires.low
-    c.requires.high c.entry_at-first.ensures c.entry_at-second.ensures c.exchange.ensures c.exchange-2.ensures in
+    c.requires.high c.entry_at-first.ensures c.entry_at-second.ensures c.exchange.ensures
+    c.exchange-2.ensures in
     made.entries

@@ -1,6 +1,6 @@
 use Rattle.std.proofs.Common.{arith}
 use Rattle.std.proofs.lemmas.Bool.{false≢true}
-use Rattle.perm_braid.proofs.EntryLemmas.{places_fit}
+use Rattle.perm_braid.proofs.EntryPlaceLemmas.{places_fit}
 use Rattle.perm_braid.proofs.perm.Perm.copy.Goals as goal
 
 pub returns-in_err-places-clause-inline : goal.returns-in_err-places-clause-inline

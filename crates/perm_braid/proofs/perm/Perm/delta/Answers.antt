@@ -1,4 +1,4 @@
-use Rattle.perm_braid.proofs.EntryLemmas.{Exchanged-half_turn}
+use Rattle.perm_braid.proofs.EntryPlaceLemmas.{Exchanged-half_turn}
 use Rattle.perm_braid.proofs.perm.Perm.delta.Goals as goal
 
 pub invariant_of-result : goal.invariant_of-result

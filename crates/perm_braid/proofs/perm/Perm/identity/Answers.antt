@@ -1,4 +1,4 @@
-use Rattle.perm_braid.proofs.EntryLemmas.{Exchanged-identity}
+use Rattle.perm_braid.proofs.EntryPlaceLemmas.{Exchanged-identity}
 use Rattle.perm_braid.proofs.perm.Perm.identity.Goals as goal
 
 pub invariant_of-result : goal.invariant_of-result

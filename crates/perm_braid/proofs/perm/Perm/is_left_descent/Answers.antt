@@ -1,5 +1,5 @@
 use Rattle.std.proofs.Common.{arith}
-use Rattle.perm_braid.proofs.EntryLemmas.{places_fit, left_descent_is}
+use Rattle.perm_braid.proofs.EntryPlaceLemmas.{places_fit, left_descent_is}
 use Rattle.perm_braid.proofs.perm.Perm.is_left_descent.Goals as goal
 
 pub entry_at-requires-clause-high : goal.entry_at-requires-clause-high

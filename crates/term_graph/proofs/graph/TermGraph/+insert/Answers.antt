@@ -16,7 +16,9 @@ unreachable-requires t c =
 pub returns-in_err-left-in-Product-clause-stopped : goal.returns-in_err-left-in-Product-clause-stopped
 returns-in_err-left-in-Product-clause-stopped t c =
     let (e, is, same) = err_from_is_err_and c.from_residual.result c.from_residual.ensures.1 in
-    rw (is, same) (left-stopped _ _ _ _ _ _ _ (ap written c.in-Product.is) (rw c.deref.ensures at c.in_err-left-in-Product.ensures.stopped))
+    rw (is, same)
+    (left-stopped _ _ _ _ _ _ _ (ap written c.in-Product.is)
+    (rw c.deref.ensures at c.in_err-left-in-Product.ensures.stopped))
 
 pub returns-in_err-left-in-Product-clause-refused : goal.returns-in_err-left-in-Product-clause-refused
 returns-in_err-left-in-Product-clause-refused t c =
@@ -24,7 +26,9 @@ returns-in_err-left-in-Product-clause-refused t c =
 
 pub returns-in_err-right-in-Product-clause-stopped : goal.returns-in_err-right-in-Product-clause-stopped
 returns-in_err-right-in-Product-clause-stopped t c =
-    let (e, is, same) = err_from_is_err_and c.from_residual-in_err-right-in-Product.result c.from_residual-in_err-right-in-Product.ensures.1 in
+    let (e, is, same) =
+    err_from_is_err_and c.from_residual-in_err-right-in-Product.result
+    c.from_residual-in_err-right-in-Product.ensures.1 in
     let left = c.in_ok-left-in-Product.ensures in
     let part = c.deref.ensures in
     let done : IsLeftDone _ _ c.args.names.now _ _ = record {
@@ -43,25 +47,29 @@ returns-in_err-right-in-Product-clause-refused t c =
 
 pub returns-in-Some-clause-number : goal.returns-in-Some-clause-number
 returns-in-Some-clause-number t c =
-    number-meaning _ _ _ _ _ _ (ap written c.in-Named.is) c.requires.numbers (sym c.find.ensures ∙ c.in-Some.is)
+    number-meaning _ _ _ _ _ _ (ap written c.in-Named.is) c.requires.numbers
+    (sym c.find.ensures ∙ c.in-Some.is)
 
 -- both parts are done
 parts
     : (t : ℕ) (c : goal.After-product t)
-    → ArePartsDone c.args.self.now c.insert-in-Product.new.self (named_terms c.args.self.now c.args.names.now) (written c.args.term.now) c.in_ok-left-in-Product.left c.in_ok-right-in-Product.right
+    → ArePartsDone c.args.self.now c.insert-in-Product.new.self (named_terms c.args.self.now c.args.names.now)
+    (written c.args.term.now) c.in_ok-left-in-Product.left c.in_ok-right-in-Product.right
 parts t c =
     let left = c.in_ok-left-in-Product.ensures in
     let right = c.in_ok-right-in-Product.ensures in
     let part = c.deref.ensures in
     let other = c.deref-in-Product.ensures in
-    let done : IsLeftDone c.args.self.now c.insert.new.self c.args.names.now (written c.in-Product.left.value) c.in_ok-left-in-Product.left = record {
+    let done : IsLeftDone c.args.self.now c.insert.new.self c.args.names.now (written c.in-Product.left.value)
+    c.in_ok-left-in-Product.left = record {
       numbers = c.requires.numbers;
       within = left.number.0;
       number = rw part at left.number.1;
       asked = rw part at left.asked;
       kept = c.insert.ensures.kept;
     } in
-    parts-done _ _ _ _ _ _ _ _ _ (ap written c.in-Product.is) done (rw other at right.number.1) (rw other at right.asked) c.insert-in-Product.ensures.kept
+    parts-done _ _ _ _ _ _ _ _ _ (ap written c.in-Product.is) done (rw other at right.number.1)
+    (rw other at right.asked) c.insert-in-Product.ensures.kept
 
 pub returns-in_ok-right-in-Product-clause-number :
     goal.returns-in_ok-right-in-Product-clause-number
@@ -83,6 +91,8 @@ returns-in_ok-right-in-Product-clause-stopped t c =
 pub returns-in_ok-right-in-Product-clause-kept : goal.returns-in_ok-right-in-Product-clause-kept
 returns-in_ok-right-in-Product-clause-kept t c =
     let last = c.insert-in-Product.new.self in
-    let product = multiply (term_at last c.in_ok-left-in-Product.left) (term_at last c.in_ok-right-in-Product.right) in
+    let product =
+    multiply (term_at last c.in_ok-left-in-Product.left) (term_at last c.in_ok-right-in-Product.right) in
     IsFront-trans c.args.self.now last c.product.new.self (parts t c).kept
-    (IsFront-product last c.product.new.self product c.product.result c.product.ensures.asked c.product.ensures.unchanged)
+    (IsFront-product last c.product.new.self product c.product.result c.product.ensures.asked
+    c.product.ensures.unchanged)

@@ -13,4 +13,6 @@ returns-in_err-place c =
 pub returns : goal.returns
 returns c =
     let kept = subst (IsKept c.self.inside.pairs.keys) c.self.view_is c.self.invariant.0 in
-    place-parts _ _ kept c.args.a c.in_ok-place.place c.in_ok-left.field-0.now (omega (arith, c.in_ok-place.ensures, c.index.ensures)) (omega (arith, c.in_ok-place.ensures, c.index.ensures)) (sym c.in_ok-left.ensures.key)
+    place-parts _ _ kept c.args.a c.in_ok-place.place c.in_ok-left.field-0.now
+    (omega (arith, c.in_ok-place.ensures, c.index.ensures))
+    (omega (arith, c.in_ok-place.ensures, c.index.ensures)) (sym c.in_ok-left.ensures.key)

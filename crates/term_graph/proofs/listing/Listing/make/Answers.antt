@@ -6,8 +6,13 @@ use Rattle.term_graph.proofs.listing.Listing.make.Goals as goal
 pub invariant_of-result : goal.invariant_of-result
 invariant_of-result c =
     let begun = c.in_ok-list_products.ensures.begun in
-    let placed = begun-placed _ _ _ c.in_ok-places.places.items c.in_ok-places.places.len begun (omega (arith, c.in_ok-places.ensures.len, c.nodes.ensures.count, c.nodes.ensures.graph.some)) in
-    (placed, begun-few _ _ _ _ c.requires begun _ c.new-numbers.ensures.items c.in_ok-list_products.ensures.listed)
+    let placed =
+    begun-placed _ _ _ c.in_ok-places.places.items c.in_ok-places.places.len begun
+    (omega (arith, c.in_ok-places.ensures.len, c.nodes.ensures.count, c.nodes.ensures.graph.some)) in (
+      placed,
+      begun-few _ _ _ _ c.requires begun _ c.new-numbers.ensures.items
+          c.in_ok-list_products.ensures.listed,
+    )
 
 pub returns-clause-listing : goal.returns-clause-listing
 returns-clause-listing c =

@@ -1,7 +1,7 @@
 -- The term is entered, and its number is that of the line.
 use Rattle.ld_term.specs.TreeTexts.{written}
 use Rattle.term_graph.specs.TermFiles.{closing}
-use Rattle.term_graph.proofs.ReadingLemmas.{Keeps-closing}
+use Rattle.term_graph.proofs.KeepLineLemmas.{Keeps-closing}
 use Rattle.term_graph.proofs.term_file.Reading.close.Goals as goal
 
 pub returns-clause-sound : goal.returns-clause-sound

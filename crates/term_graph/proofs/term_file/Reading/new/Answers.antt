@@ -1,5 +1,5 @@
 -- Nothing was read.
-use Rattle.term_graph.proofs.ReadingLemmas.{Keeps-start}
+use Rattle.term_graph.proofs.KeepLineLemmas.{Keeps-start}
 use Rattle.term_graph.proofs.term_file.Reading.new.Goals as goal
 
 pub returns : goal.returns
