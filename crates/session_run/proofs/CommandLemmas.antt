@@ -127,7 +127,8 @@ own_begin
     → find_job name (opened (cond (is_some (find_job own jobs)) twice rest) new jobs) ≡ Some j
 own_begin name own jobs j new rest same found =
     let names : name ≡ own = (bytes_eq-Decides name own).0 same in
-    let opens : is_some (find_job own jobs) ≡ true = subst (λ z. is_some (find_job z jobs) ≡ true) names (ap is_some found) in
+    let opens : is_some (find_job own jobs) ≡ true =
+    subst (λ z. is_some (find_job z jobs) ≡ true) names (ap is_some found) in
     rw opens found
 
 -- the job of an open name after a command on this name

@@ -100,11 +100,15 @@ heard_all-given t (x ∷ xs) = elim (cases_eq x 10) [
       ∙ heard_all-given (answered t) xs
       ∙ ap (λ z. (answered t).text ++ answers (answered t).jobs z) (onto_lines-nil (whole_lines xs))
       ∙ append_assoc t.text (answer_to t.jobs t.rest) (answers (answered t).jobs (whole_lines xs))
-      ∙ ap (λ z. t.text ++ answers t.jobs z) (sym (ap (λ parts. onto_lines t.rest parts.0) (cut-lf x xs is) ∙ onto_lines-lf t.rest (whole_lines xs)))
+      ∙ ap (λ z. t.text ++ answers t.jobs z)
+      (sym (ap (λ parts. onto_lines t.rest parts.0) (cut-lf x xs is)
+      ∙ onto_lines-lf t.rest (whole_lines xs)))
   | inr other ↦
       ap (λ z. (heard_all z xs).text) (heard-other t x other)
       ∙ heard_all-given (longer t x) xs
-      ∙ ap (λ z. t.text ++ answers t.jobs z) (sym (ap (λ parts. onto_lines t.rest parts.0) (cut-cons x xs other) ∙ onto_lines-more t.rest x (cut xs)))
+      ∙ ap (λ z. t.text ++ answers t.jobs z)
+      (sym (ap (λ parts. onto_lines t.rest parts.0) (cut-cons x xs other)
+      ∙ onto_lines-more t.rest x (cut xs)))
 ]
 
 -- the lines of bytes are the whole ones, and what stands behind the last LF
@@ -116,15 +120,23 @@ heard_all-lines t (x ∷ xs) = elim (cases_eq x 10) [
   | inl is ↦
       ap (begun t.rest) (lines_of-lf x xs is)
       ∙ begun-lf t.rest (lines_of xs)
-      ∙ ap (λ z. t.rest ∷ z) (sym (begun-nil (lines_of xs)) ∙ heard_all-lines (answered t) xs ∙ ap (λ z. z ++ last_line (heard_all (answered t) xs).rest) (onto_lines-nil (whole_lines xs)))
-      ∙ ap (λ z. z ++ last_line (heard_all (answered t) xs).rest) (sym (ap (λ parts. onto_lines t.rest parts.0) (cut-lf x xs is) ∙ onto_lines-lf t.rest (whole_lines xs)))
-      ∙ ap (λ z. onto_lines t.rest (whole_lines (x ∷ xs)) ++ last_line (heard_all z xs).rest) (sym (heard-lf t x is))
+      ∙ ap (λ z. t.rest ∷ z)
+      (sym (begun-nil (lines_of xs)) ∙ heard_all-lines (answered t) xs
+      ∙ ap (λ z. z ++ last_line (heard_all (answered t) xs).rest) (onto_lines-nil (whole_lines xs)))
+      ∙ ap (λ z. z ++ last_line (heard_all (answered t) xs).rest)
+      (sym (ap (λ parts. onto_lines t.rest parts.0) (cut-lf x xs is)
+      ∙ onto_lines-lf t.rest (whole_lines xs)))
+      ∙ ap (λ z. onto_lines t.rest (whole_lines (x ∷ xs)) ++ last_line (heard_all z xs).rest)
+      (sym (heard-lf t x is))
   | inr other ↦
       ap (begun t.rest) (lines_of-cons x xs other)
       ∙ begun-more t.rest x (lines_of xs)
       ∙ heard_all-lines (longer t x) xs
-      ∙ ap (λ z. z ++ last_line (heard_all (longer t x) xs).rest) (sym (ap (λ parts. onto_lines t.rest parts.0) (cut-cons x xs other) ∙ onto_lines-more t.rest x (cut xs)))
-      ∙ ap (λ z. onto_lines t.rest (whole_lines (x ∷ xs)) ++ last_line (heard_all z xs).rest) (sym (heard-other t x other))
+      ∙ ap (λ z. z ++ last_line (heard_all (longer t x) xs).rest)
+      (sym (ap (λ parts. onto_lines t.rest parts.0) (cut-cons x xs other)
+      ∙ onto_lines-more t.rest x (cut xs)))
+      ∙ ap (λ z. onto_lines t.rest (whole_lines (x ∷ xs)) ++ last_line (heard_all z xs).rest)
+      (sym (heard-other t x other))
 ]
 
 -- What was given, and the answer to what stands behind the last LF.
@@ -142,11 +154,13 @@ heard_all-answered t (x ∷ xs) = elim (cases_eq x 10) [
       ∙ heard_all-answered (answered t) xs
       ∙ ap (λ z. (answered t).text ++ answers (answered t).jobs z) (begun-nil (lines_of xs))
       ∙ append_assoc t.text (answer_to t.jobs t.rest) (answers (answered t).jobs (lines_of xs))
-      ∙ ap (λ z. t.text ++ answers t.jobs z) (sym (ap (begun t.rest) (lines_of-lf x xs is) ∙ begun-lf t.rest (lines_of xs)))
+      ∙ ap (λ z. t.text ++ answers t.jobs z)
+      (sym (ap (begun t.rest) (lines_of-lf x xs is) ∙ begun-lf t.rest (lines_of xs)))
   | inr other ↦
       ap (λ z. ended_text (heard_all z xs)) (heard-other t x other)
       ∙ heard_all-answered (longer t x) xs
-      ∙ ap (λ z. t.text ++ answers t.jobs z) (sym (ap (begun t.rest) (lines_of-cons x xs other) ∙ begun-more t.rest x (lines_of xs)))
+      ∙ ap (λ z. t.text ++ answers t.jobs z)
+      (sym (ap (begun t.rest) (lines_of-cons x xs other) ∙ begun-more t.rest x (lines_of xs)))
 ]
 
 -- what was given since nothing was heard
@@ -156,7 +170,8 @@ heard_all-text xs = heard_all-given silent xs ∙ ap (answers []) (onto_lines-ni
 -- the same, with the answer to a last line without LF
 pub heard_all-ended
     : (xs : List ℕ)
-    → (heard_all silent xs).text ++ last_answer (heard_all silent xs).jobs (heard_all silent xs).rest ≡ answers [] (lines_of xs)
+    → (heard_all silent xs).text ++ last_answer (heard_all silent xs).jobs (heard_all silent xs).rest
+    ≡ answers [] (lines_of xs)
 heard_all-ended xs = heard_all-answered silent xs ∙ ap (answers []) (begun-nil (lines_of xs))
 
 -- the lines, the last of which may have no LF
@@ -179,7 +194,10 @@ heard_all-apart
 heard_all-apart t text [] = refl
 heard_all-apart t text (x ∷ xs) = elim (cases_eq x 10) [
   | inl is ↦
-      ap (λ z. heard_all z xs) (heard-lf (said_before text t) x is ∙ ap (λ z. record { jobs = jobs_after t.jobs t.rest; rest = []; text = z }) (append_assoc text t.text (answer_to t.jobs t.rest)))
+      ap (λ z. heard_all z xs)
+      (heard-lf (said_before text t) x is
+      ∙ ap (λ z. record { jobs = jobs_after t.jobs t.rest; rest = []; text = z })
+      (append_assoc text t.text (answer_to t.jobs t.rest)))
       ∙ heard_all-apart (answered t) text xs
       ∙ ap (λ z. said_before text (heard_all z xs)) (sym (heard-lf t x is))
   | inr other ↦
@@ -193,13 +211,25 @@ pub heard_all-more_bytes
     : (front piece : List ℕ)
     → heard_all silent (front ++ piece)
     ≡ record {
-      jobs = (heard_all (record { jobs = (heard_all silent front).jobs; rest = (heard_all silent front).rest; text = [] }) piece).jobs;
-      rest = (heard_all (record { jobs = (heard_all silent front).jobs; rest = (heard_all silent front).rest; text = [] }) piece).rest;
-      text = (heard_all silent front).text ++ (heard_all (record { jobs = (heard_all silent front).jobs; rest = (heard_all silent front).rest; text = [] }) piece).text;
+      jobs = (heard_all (record {
+        jobs = (heard_all silent front).jobs;
+        rest = (heard_all silent front).rest;
+        text = [];
+      }) piece).jobs;
+      rest = (heard_all (record {
+        jobs = (heard_all silent front).jobs;
+        rest = (heard_all silent front).rest;
+        text = [];
+      }) piece).rest;
+      text = (heard_all silent front).text
+          ++ (heard_all
+          (record { jobs = (heard_all silent front).jobs; rest = (heard_all silent front).rest; text = [] })
+          piece).text;
     }
 heard_all-more_bytes front piece =
     let now = heard_all silent front in
-    let whole : record { jobs = now.jobs; rest = now.rest; text = now.text ++ [] } ≡ now = ap (λ z. record { jobs = now.jobs; rest = now.rest; text = z }) (append-nil now.text) in
+    let whole : record { jobs = now.jobs; rest = now.rest; text = now.text ++ [] } ≡ now =
+    ap (λ z. record { jobs = now.jobs; rest = now.rest; text = z }) (append-nil now.text) in
     heard_all-append silent front piece
     ∙ ap (λ t. heard_all t piece) (sym whole)
     ∙ heard_all-apart (record { jobs = now.jobs; rest = now.rest; text = [] }) now.text piece
@@ -212,8 +242,12 @@ pub record Follows (lines first : List (List ℕ)) : Type 0 where
   pub parts : lines ≡ first ++ others
 
 -- one line in front of both
-Follows-cons : (text : List ℕ) (lines first : List (List ℕ)) → Follows lines first → Follows (text ∷ lines) (text ∷ first)
-Follows-cons text lines first follows = record { others = follows.others; parts = ap (λ z. text ∷ z) follows.parts }
+Follows-cons
+    : (text : List ℕ) (lines first : List (List ℕ))
+    → Follows lines first
+    → Follows (text ∷ lines) (text ∷ first)
+Follows-cons text lines first follows =
+    record { others = follows.others; parts = ap (λ z. text ∷ z) follows.parts }
 
 -- one byte in front of both
 Follows-onto
@@ -221,7 +255,8 @@ Follows-onto
     → Follows all.0 front.0
     → Follows (onto_line x all).0 (onto_line x front).0
 Follows-onto x all ([], behind) follows = record { others = (onto_line x all).0; parts = refl }
-Follows-onto x (lines, rest) (text ∷ first, behind) follows = rw follows.parts record { others = follows.others; parts = refl }
+Follows-onto x (lines, rest) (text ∷ first, behind) follows =
+    rw follows.parts record { others = follows.others; parts = refl }
 
 -- the whole lines of a front are the first of all
 pub whole_lines-front : (xs ys : List ℕ) → Follows (whole_lines (xs ++ ys)) (whole_lines xs)
@@ -238,16 +273,22 @@ pub record Precedes (lines first : List (List ℕ)) : Type 0 where
   pub parts : lines ≡ first ++ next ∷ others
 
 -- one line in front of both
-Precedes-cons : (text : List ℕ) (lines first : List (List ℕ)) → Precedes lines first → Precedes (text ∷ lines) (text ∷ first)
-Precedes-cons text lines first before = record { next = before.next; others = before.others; parts = ap (λ z. text ∷ z) before.parts }
+Precedes-cons
+    : (text : List ℕ) (lines first : List (List ℕ))
+    → Precedes lines first
+    → Precedes (text ∷ lines) (text ∷ first)
+Precedes-cons text lines first before =
+    record { next = before.next; others = before.others; parts = ap (λ z. text ∷ z) before.parts }
 
 -- one byte in front of both
 Precedes-onto
     : (x : ℕ) (lines : List (List ℕ)) (front : List (List ℕ) × List ℕ)
     → Precedes lines front.0
     → Precedes (onto_first x lines) (onto_line x front).0
-Precedes-onto x lines ([], behind) before = rw before.parts record { next = x ∷ before.next; others = before.others; parts = refl }
-Precedes-onto x lines (text ∷ first, behind) before = rw before.parts record { next = before.next; others = before.others; parts = refl }
+Precedes-onto x lines ([], behind) before =
+    rw before.parts record { next = x ∷ before.next; others = before.others; parts = refl }
+Precedes-onto x lines (text ∷ first, behind) before =
+    rw before.parts record { next = before.next; others = before.others; parts = refl }
 
 -- some bytes have a line
 lines_of-some : (y : ℕ) (ys : List ℕ) → Precedes (lines_of (y ∷ ys)) []
@@ -270,9 +311,16 @@ lines_of-front (x ∷ xs) ys some = elim (cases_Bool (x == 10)) [
 ]
 
 -- the same, where they end with an open line
-pub lines_of-open : (xs : List ℕ) → 0 < length (heard_all silent xs).rest → Precedes (lines_of xs) (whole_lines xs)
+pub lines_of-open
+    : (xs : List ℕ)
+    → 0 < length (heard_all silent xs).rest
+    → Precedes (lines_of xs) (whole_lines xs)
 lines_of-open xs some = go (heard_all silent xs).rest some (lines_of-whole xs)
   where
-    go : (rest : List ℕ) → 0 < length rest → lines_of xs ≡ whole_lines xs ++ last_line rest → Precedes (lines_of xs) (whole_lines xs)
+    go
+        : (rest : List ℕ)
+        → 0 < length rest
+        → lines_of xs ≡ whole_lines xs ++ last_line rest
+        → Precedes (lines_of xs) (whole_lines xs)
     go [] few parts = absurd (omega arith)
     go (b ∷ rest) few parts = record { next = b ∷ rest; others = []; parts = parts }

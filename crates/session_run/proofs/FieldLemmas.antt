@@ -1,10 +1,11 @@
 -- The fields of a text, from the first on.
-use Rattle.std.proofs.Common.{◌≡◌, ℕ, suc, zero, ◌+◌, ◌-◌, ◌==◌, ◌<◌, ◌≤◌, Bool, true, false, not, List, [], ◌∷◌, length, take, drop, filter, position, Some, None, refl, ap, sym, ◌∙◌, inl, inr, arith}
-use Rattle.std.proofs.lemmas.Bool.{cases_Bool, cases_lt, le-ltb, lt-ltb, ne_eqb}
+use Rattle.std.proofs.Common.{◌≡◌, ℕ, suc, zero, ◌+◌, ◌-◌, ◌==◌, ◌<◌, ◌≤◌, Bool, true, false, not, List, [], ◌∷◌, length, take, drop, filter, position, Some, None, refl, ap, ◌∙◌, inl, inr, arith}
+use Rattle.std.proofs.lemmas.Bool.{cases_Bool, ne_eqb}
 use Rattle.std.proofs.lemmas.List.{take_rest}
 use Rattle.std.proofs.lemmas.List.Splits.{slice_split_first, length-slice_split}
 use Rattle.std.specs.List.{slice_split, position_or_len}
 use Rattle.session_run.specs.CommandLines.{fields_of, opened_by, command_by, command_of}
+use Rattle.wb_base.proofs.PartLemmas.{position-Some, position-None}
 
 -- the tests of a byte
 abbrev pub is_space : ℕ → Bool
@@ -12,27 +13,6 @@ is_space byte = byte == 32
 
 abbrev pub is_other : ℕ → Bool
 is_other byte = not (byte == 32)
-
--- ---- Places ----
-
--- where a byte passes, the place is that of the first
-pub place-Some : (p : ℕ → Bool) (text : List ℕ) (k : ℕ) → position p text ≡ Some k → (k ≡ position_or_len p text) × (k < length text)
-place-Some p text k found = elim (cases_lt (position_or_len p text) (length text)) [
-  | inl within ↦ let test = lt-ltb (position_or_len p text) (length text) within in
-      let same : Some (position_or_len p text) ≡ Some k = rw test at found in
-      let place : position_or_len p text ≡ k = cc in
-      (sym place, rw place at within)
-  | inr past ↦ let test = le-ltb (position_or_len p text) (length text) (omega arith) in
-      let never : None ≡ Some k = rw test at found in absurd cc
-]
-
--- where none does, the first place is past the end
-pub place-None : (p : ℕ → Bool) (text : List ℕ) → position p text ≡ None → length text ≤ position_or_len p text
-place-None p text none = elim (cases_lt (position_or_len p text) (length text)) [
-  | inl within ↦ let test = lt-ltb (position_or_len p text) (length text) within in
-      let never : Some (position_or_len p text) ≡ None = rw test at none in absurd cc
-  | inr past ↦ omega arith
-]
 
 -- ---- Fields ----
 
@@ -60,7 +40,13 @@ Starts-space
     → Starts text k
     → Starts (byte ∷ text) (suc k)
 Starts-space byte text k space s =
-    record { first = s.first; rest = s.rest; dropped = s.dropped; other = s.other; fields = rw space s.fields }
+    record {
+      first = s.first;
+      rest = s.rest;
+      dropped = s.dropped;
+      other = s.other;
+      fields = rw space s.fields;
+    }
 
 -- no space in front
 Starts-here
@@ -82,12 +68,16 @@ Starts-other (byte ∷ text) zero is within = elim (cases_Bool (byte == 32)) [
   | inr other ↦ Starts-here byte text zero other refl
 ]
 Starts-other (byte ∷ text) (suc k) is within = elim (cases_Bool (byte == 32)) [
-  | inl space ↦ Starts-space byte text k space (Starts-other text k (omega (arith, rw space at is)) (omega arith))
+  | inl space ↦
+      Starts-space byte text k space (Starts-other text k (omega (arith, rw space at is)) (omega arith))
   | inr other ↦ absurd (omega (arith, rw other at is))
 ]
 
 -- no space: one part
-split_none : (text : List ℕ) → length text ≤ position_or_len is_space text → slice_split is_space text ≡ text ∷ []
+split_none
+    : (text : List ℕ)
+    → length text ≤ position_or_len is_space text
+    → slice_split is_space text ≡ text ∷ []
 split_none [] past = refl
 split_none (byte ∷ text) past = elim (cases_Bool (byte == 32)) [
   | inl space ↦ absurd (omega (arith, rw space at past))
@@ -101,7 +91,8 @@ pub fields_of-one
     → length (first ∷ rest) ≤ position_or_len is_space (first ∷ rest)
     → fields_of (first ∷ rest) ≡ (first ∷ rest) ∷ []
 fields_of-one first rest past =
-    let some : (suc (length rest) == 0) ≡ false = ne_eqb (suc (length rest)) 0 (λ e. absurd (omega (arith, e))) in
+    let some : (suc (length rest) == 0) ≡ false =
+    ne_eqb (suc (length rest)) 0 (λ e. absurd (omega (arith, e))) in
     rw (split_none (first ∷ rest) past, some) refl
 
 -- the first field ends before the first space
@@ -112,23 +103,27 @@ pub fields_of-more
     → end < length (first ∷ rest)
     → fields_of (first ∷ rest) ≡ take end (first ∷ rest) ∷ fields_of (drop (end + 1) (first ∷ rest))
 fields_of-more first rest end other is within =
-    let split : slice_split is_space (first ∷ rest) ≡ take end (first ∷ rest) ∷ slice_split is_space (drop (end + 1) (first ∷ rest))
+    let split : slice_split is_space (first ∷ rest)
+    ≡ take end (first ∷ rest) ∷ slice_split is_space (drop (end + 1) (first ∷ rest))
     = rw is (slice_split_first is_space (first ∷ rest) 0 (omega (arith, is))) in
-    let begins : position_or_len is_space (first ∷ rest) ≡ suc (position_or_len is_space rest) = rw other (omega arith) in
+    let begins : position_or_len is_space (first ∷ rest) ≡ suc (position_or_len is_space rest) =
+    rw other (omega arith) in
     ap (filter (λ (part : List ℕ). not (length part == 0))) split ∙ kept end (omega (arith, is, begins))
   where
     kept : (end : ℕ) → end ≡ suc (position_or_len is_space rest)
-        → filter (λ (part : List ℕ). not (length part == 0)) (take end (first ∷ rest) ∷ slice_split is_space (drop (end + 1) (first ∷ rest)))
+        → filter (λ (part : List ℕ). not (length part == 0))
+        (take end (first ∷ rest) ∷ slice_split is_space (drop (end + 1) (first ∷ rest)))
         ≡ take end (first ∷ rest) ∷ fields_of (drop (end + 1) (first ∷ rest))
     kept zero is = absurd (omega arith)
     kept (suc end) is =
-        let some : (suc (length (take end rest)) == 0) ≡ false = ne_eqb (suc (length (take end rest))) 0 (λ e. absurd (omega (arith, e))) in
+        let some : (suc (length (take end rest)) == 0) ≡ false =
+        ne_eqb (suc (length (take end rest))) 0 (λ e. absurd (omega (arith, e))) in
         rw some refl
 
 -- ---- What the reader finds ----
 
 pub field_none : (text : List ℕ) → position is_other text ≡ None → fields_of text ≡ []
-field_none text none = fields_of-blank text (place-None is_other text none)
+field_none text none = fields_of-blank text (position-None is_other text none)
 
 pub field_last
     : (text : List ℕ) (k : ℕ)
@@ -136,11 +131,11 @@ pub field_last
     → position is_space (take (length text - k) (drop k text)) ≡ None
     → fields_of text ≡ take (length text - k) (drop k text) ∷ []
 field_last text k start none =
-    let (is, within) = place-Some is_other text k start in
+    let (is, within) = position-Some is_other text k start in
     let s = Starts-other text k is within in
     let whole : take (length text - k) (drop k text) ≡ s.first ∷ s.rest = take_rest text k ∙ s.dropped in
     let past : length (s.first ∷ s.rest) ≤ position_or_len is_space (s.first ∷ s.rest)
-    = place-None is_space (s.first ∷ s.rest) (rw whole at none) in
+    = position-None is_space (s.first ∷ s.rest) (rw whole at none) in
     rw whole (s.fields ∙ fields_of-one s.first s.rest past)
 
 pub field_first
@@ -150,10 +145,10 @@ pub field_first
     → let rest = take (length text - k) (drop k text) in
     fields_of text ≡ take end rest ∷ fields_of (take (length rest - (end + 1)) (drop (end + 1) rest))
 field_first text k end start found =
-    let (is, within) = place-Some is_other text k start in
+    let (is, within) = position-Some is_other text k start in
     let s = Starts-other text k is within in
     let whole : take (length text - k) (drop k text) ≡ s.first ∷ s.rest = take_rest text k ∙ s.dropped in
-    let (at, below) = place-Some is_space (s.first ∷ s.rest) end (rw whole at found) in
+    let (at, below) = position-Some is_space (s.first ∷ s.rest) end (rw whole at found) in
     rw (whole, take_rest (s.first ∷ s.rest) (end + 1))
     (s.fields ∙ fields_of-more s.first s.rest end s.other at below)
 
@@ -166,7 +161,8 @@ pub opened_by-more
     → (behind_limit ≡ [] → ⊥)
     → opened_by fields ≡ None
 opened_by-more fields behind_name behind_handles [] name handles limit a b c some = absurd (some refl)
-opened_by-more fields behind_name behind_handles (other ∷ rest) name handles limit a b c some = rw (a, b, c) refl
+opened_by-more fields behind_name behind_handles (other ∷ rest) name handles limit a b c some =
+    rw (a, b, c) refl
 
 -- ---- Parts between bars ----
 
@@ -175,13 +171,17 @@ pub part_last
     : (mark : ℕ) (text : List ℕ)
     → position (λ byte. byte == mark) text ≡ None
     → slice_split (λ byte. byte == mark) text ≡ text ∷ []
-part_last mark text none = go text (place-None (λ byte. byte == mark) text none)
+part_last mark text none = go text (position-None (λ byte. byte == mark) text none)
   where
-    go : (text : List ℕ) → length text ≤ position_or_len (λ byte. byte == mark) text → slice_split (λ byte. byte == mark) text ≡ text ∷ []
+    go
+        : (text : List ℕ)
+        → length text ≤ position_or_len (λ byte. byte == mark) text
+        → slice_split (λ byte. byte == mark) text ≡ text ∷ []
     go [] past = refl
     go (byte ∷ text) past = elim (cases_Bool (byte == mark)) [
       | inl found ↦ absurd (omega (arith, rw found at past))
-      | inr other ↦ let rest : length text ≤ position_or_len (λ b. b == mark) text = omega (arith, rw other at past) in
+      | inr other ↦ let rest : length text ≤ position_or_len (λ b. b == mark) text =
+          omega (arith, rw other at past) in
           rw (other, go text rest) refl
     ]
 
@@ -189,10 +189,13 @@ part_last mark text none = go text (place-None (λ byte. byte == mark) text none
 pub part_first
     : (mark : ℕ) (text : List ℕ) (at : ℕ)
     → position (λ byte. byte == mark) text ≡ Some at
-    → slice_split (λ byte. byte == mark) text ≡ take at text ∷ slice_split (λ byte. byte == mark) (take (length text - (at + 1)) (drop (at + 1) text))
+    → slice_split (λ byte. byte == mark) text
+    ≡ take at text ∷ slice_split (λ byte. byte == mark)
+    (take (length text - (at + 1)) (drop (at + 1) text))
 part_first mark text at found =
-    let (is, within) = place-Some (λ byte. byte == mark) text at found in
-    rw (take_rest text (at + 1)) (rw is (slice_split_first (λ byte. byte == mark) text 0 (omega (arith, is, within))))
+    let (is, within) = position-Some (λ byte. byte == mark) text at found in
+    rw (take_rest text (at + 1))
+    (rw is (slice_split_first (λ byte. byte == mark) text 0 (omega (arith, is, within))))
 
 -- a line with more than two bars is no command
 pub command_of-more
@@ -203,7 +206,9 @@ pub command_of-more
     → command_of line ≡ None
 unfolding command_of
 command_of-more line behind_first behind_second behind_third head left right a b c =
-    rw (a, b, c) (go (slice_split (λ byte. byte == 124) behind_third) (omega (arith, length-slice_split (λ byte. byte == 124) behind_third)))
+    rw (a, b, c)
+    (go (slice_split (λ byte. byte == 124) behind_third)
+    (omega (arith, length-slice_split (λ byte. byte == 124) behind_third)))
   where
     go : (parts : List (List ℕ)) → 0 < length parts → command_by (head ∷ (left ∷ (right ∷ parts))) ≡ None
     go [] some = absurd (omega arith)

@@ -16,7 +16,8 @@ more_turns-none j within =
 -- turns after turns
 more_turns-add : (j : Job) (a b : ℕ) → more_turns b (more_turns a j) ≡ more_turns (a + b) j
 more_turns-add j a b =
-    let same : min j.handles (min j.handles (j.turns + a) + b) ≡ min j.handles (j.turns + (a + b)) = omega arith in
+    let same : min j.handles (min j.handles (j.turns + a) + b) ≡ min j.handles (j.turns + (a + b)) =
+    omega arith in
     ap (λ t. record j { turns = t }) same
 
 -- a command that isn't on a name gives it no turn
@@ -35,7 +36,8 @@ lives-open
     → is_on name c ≡ true
     → closes name c ≡ false
     → lives j c ≡ Some (more_turns (own_count name c) j)
-lives-open name j (command.Begin own handles limit left right) within on opens = ap Some (sym (more_turns-none j within))
+lives-open name j (command.Begin own handles limit left right) within on opens =
+    ap Some (sym (more_turns-none j within))
 lives-open name j (command.Turn own count) within on opens = rw on refl
 lives-open name j (command.Show own) within on opens = ap Some (sym (more_turns-none j within))
 lives-open name j (command.Take own) within on opens = ap Some (sym (more_turns-none j within))

@@ -2,6 +2,8 @@ pub mod SessionFacts
 pub mod JobLemmas
 pub mod FieldLemmas
 pub mod KeepLemmas
+pub mod OwnedLemmas
+pub mod ChangeLemmas
 pub mod OpeningLemmas
 pub mod CommandLemmas
 pub mod ReplyLemmas
@@ -10,4 +12,6 @@ pub mod AloneLemmas
 pub mod TalkLemmas
 pub mod ConversationLemmas
 pub mod ServingLemmas
+pub mod ServedLemmas
+pub mod ServedClauseLemmas
 pub mod LimitFacts

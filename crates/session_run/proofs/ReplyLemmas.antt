@@ -53,13 +53,17 @@ HasVerdict-state j done = verdict_by (quotient j.left j.right) j.handles j.limit
 
 -- ---- Replies that can be written ----
 
-opening_can : (jobs : List Job) (opening : Opening) (name : List ℕ) (u v : List Letter) → CanPut jobs (opening_reply opening name u v)
+opening_can
+    : (jobs : List Job) (opening : Opening) (name : List ℕ) (u v : List Letter)
+    → CanPut jobs (opening_reply opening name u v)
 opening_can jobs twice name u v = tt
 opening_can jobs full name u v = tt
 opening_can jobs too_long name u v = tt
 opening_can jobs free name u v = tt
 
-turn_can : (jobs : List Job) (name : List ℕ) (count : ℕ) (found : Option Job) → CanPut jobs (turn_reply name count found)
+turn_can
+    : (jobs : List Job) (name : List ℕ) (count : ℕ) (found : Option Job)
+    → CanPut jobs (turn_reply name count found)
 turn_can jobs name count None = tt
 turn_can jobs name count (Some j) = IsSayable-state (more_turns count j)
 
@@ -71,7 +75,10 @@ close_can : (jobs : List Job) (name : List ℕ) (found : Option Job) → CanPut 
 close_can jobs name None = tt
 close_can jobs name (Some j) = tt
 
-take_can : (jobs : List Job) (name : List ℕ) (found : Option Job) → find_job name jobs ≡ found → CanPut jobs (take_reply name found)
+take_can
+    : (jobs : List Job) (name : List ℕ) (found : Option Job)
+    → find_job name jobs ≡ found
+    → CanPut jobs (take_reply name found)
 take_can jobs name None is = tt
 take_can jobs name (Some j) is = elim (cases_Bool (is_done (state_of j).progress)) [
   | inl done ↦ rw (done, is) (HasVerdict-state j done)
@@ -80,7 +87,8 @@ take_can jobs name (Some j) is = elim (cases_Bool (is_done (state_of j).progress
 
 -- the reply to a command can be written behind it
 pub CanPut-after : (jobs : List Job) (c : Command) → CanPut (after jobs c) (reply_to jobs c)
-CanPut-after jobs (command.Begin name handles limit left right) = opening_can _ (opening_of jobs name left right) name left right
+CanPut-after jobs (command.Begin name handles limit left right) =
+    opening_can _ (opening_of jobs name left right) name left right
 CanPut-after jobs (command.Turn name count) = turn_can _ name count (find_job name jobs)
 CanPut-after jobs (command.Show name) = show_can jobs name (find_job name jobs)
 CanPut-after jobs (command.Take name) = take_can jobs name (find_job name jobs) refl

@@ -31,7 +31,9 @@ unfolding command_of
 bar_row = refl
 
 -- a line that opens a job needs no space beside a bar, and its words may be empty
-open_row : command_of (codes "open x 0 9|1 -2|") ≡ Some (Begin (codes "x") 0 9 (letter 1 false ∷ (letter 2 true ∷ [])) [])
+open_row
+    : command_of (codes "open x 0 9|1 -2|")
+    ≡ Some (Begin (codes "x") 0 9 (letter 1 false ∷ (letter 2 true ∷ [])) [])
 unfolding command_of word_of number_word_of
 open_row = refl
 
@@ -46,7 +48,9 @@ cut_row = refl
 
 -- a name that is closed and opened again stands last
 order_row
-    : map (λ (j : Job). j.name) (after_all (a_job (codes "a") ∷ (a_job (codes "b") ∷ [])) (Close (codes "a") ∷ (Begin (codes "a") 3 9 [] [] ∷ [])))
+    : map (λ (j : Job). j.name)
+    (after_all (a_job (codes "a") ∷ (a_job (codes "b") ∷ []))
+    (Close (codes "a") ∷ (Begin (codes "a") 3 9 [] [] ∷ [])))
     ≡ codes "b" ∷ (codes "a" ∷ [])
 unfolding a_job
 order_row = refl

@@ -54,7 +54,11 @@ Grows-heard : (t : Talk) (byte : ℕ) (text : List ℕ) → Grows (heard t byte)
 Grows-heard t byte text later = elim (cases_Bool (byte == 10)) [
   | inl ends ↦
       let parts : text ≡ (t.text ++ answer_to t.jobs t.rest) ++ later.more = rw ends at later.parts in
-      record { more = answer_to t.jobs t.rest ++ later.more; parts = parts ∙ append_assoc t.text (answer_to t.jobs t.rest) later.more }
+      record {
+        more = answer_to t.jobs t.rest ++ later.more;
+        parts = parts
+            ∙ append_assoc t.text (answer_to t.jobs t.rest) later.more;
+      }
   | inr other ↦
       let parts : text ≡ t.text ++ later.more = rw other at later.parts in
       record { more = later.more; parts = parts }
@@ -81,7 +85,9 @@ Grows-line t (x ∷ bytes) zero within is =
 Grows-line t (x ∷ bytes) (suc i) within is = Grows-line (heard t x) bytes i (omega arith) is
 
 -- what is given in all begins with what is given before any byte
-pub Grows-at : (t : Talk) (bytes : List ℕ) (i : ℕ) → Grows (heard_all t (take i bytes)) (heard_all t bytes).text
+pub Grows-at
+    : (t : Talk) (bytes : List ℕ) (i : ℕ)
+    → Grows (heard_all t (take i bytes)) (heard_all t bytes).text
 Grows-at t bytes zero = Grows-all t bytes
 Grows-at t [] (suc i) = Grows-all t []
 Grows-at t (x ∷ bytes) (suc i) = Grows-at (heard t x) bytes i
@@ -90,7 +96,8 @@ Grows-at t (x ∷ bytes) (suc i) = Grows-at (heard t x) bytes i
 pub heard-lf
     : (t : Talk) (byte : ℕ)
     → byte ≡ 10
-    → heard t byte ≡ record { jobs = jobs_after t.jobs t.rest; rest = []; text = t.text ++ answer_to t.jobs t.rest }
+    → heard t byte
+    ≡ record { jobs = jobs_after t.jobs t.rest; rest = []; text = t.text ++ answer_to t.jobs t.rest }
 heard-lf t byte is = rw (eq-eqb byte 10 is) refl
 
 -- another byte stands in the open line

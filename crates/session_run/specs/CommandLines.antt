@@ -95,7 +95,8 @@ abbrev pub opened_by : List (List ℕ) → Option Head
 opened_by [] = None
 opened_by (name ∷ []) = None
 opened_by (name ∷ (handles ∷ [])) = None
-opened_by (name ∷ (handles ∷ (limit ∷ []))) = head_by (name_of name) (small_number handles) (small_number limit)
+opened_by (name ∷ (handles ∷ (limit ∷ []))) =
+    head_by (name_of name) (small_number handles) (small_number limit)
 opened_by (name ∷ (handles ∷ (limit ∷ (other ∷ fields)))) = None
 
 -- The fields before the first bar.
@@ -104,7 +105,8 @@ head_of [] = None
 head_of (word ∷ fields) = if bytes_eq word (codes "open") then opened_by fields else None
 
 -- The command that opens a job, where all its parts can be read.
-abbrev pub begin_by : Option Head → Result (List Letter) WordErr → Result (List Letter) WordErr → Option Command
+abbrev pub begin_by : Option Head → Result (List Letter) WordErr → Result (List Letter) WordErr
+    → Option Command
 begin_by (Some head) (Ok left) (Ok right) = Some (Begin head.0 head.1 head.2 left right)
 begin_by (Some head) (Ok left) (Err e) = None
 begin_by (Some head) (Err e) right = None

@@ -54,7 +54,8 @@ limit_line = line (codes "limit input " ++ decimal MAX_INPUT)
 -- the limit is named.
 abbrev pub session_answer : List ℕ → Answer
 session_answer input =
-    if nat_lt MAX_INPUT (length input) then answer Limit (answers [] (whole_lines (take MAX_INPUT input)) ++ limit_line)
+    if nat_lt MAX_INPUT (length input)
+    then answer Limit (answers [] (whole_lines (take MAX_INPUT input)) ++ limit_line)
     else answer Done (answers [] (lines_of input))
 
 -- ---- Byte by byte ----
@@ -68,7 +69,8 @@ pub record Talk : Type 0 where
 -- What a byte makes of it: at an LF the line is answered.
 abbrev pub heard : Talk → ℕ → Talk
 heard t byte =
-    if byte == 10 then (record { jobs = jobs_after t.jobs t.rest; rest = []; text = t.text ++ answer_to t.jobs t.rest })
+    if byte == 10
+    then (record { jobs = jobs_after t.jobs t.rest; rest = []; text = t.text ++ answer_to t.jobs t.rest })
     else (record t { rest = t.rest ++ byte ∷ [] })
 
 abbrev pub heard_all : Talk → List ℕ → Talk
@@ -79,8 +81,8 @@ heard_all t (byte ∷ bytes) = heard_all (heard t byte) bytes
 abbrev pub silent : Talk
 silent = record { jobs = []; rest = []; text = [] }
 
--- What answers a last line without LF, which is none where no byte stands behind the last LF. No public clause
--- cites it.
+-- What answers a last line without LF, which is none where no byte stands behind the last LF. No public
+-- clause cites it.
 abbrev pub last_answer : List Job → List ℕ → List ℕ
 last_answer jobs [] = []
 last_answer jobs (byte ∷ bytes) = answer_to jobs (byte ∷ bytes)

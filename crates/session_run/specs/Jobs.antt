@@ -70,7 +70,8 @@ pub data Opening : Type 0 where
 abbrev pub opening_of : List Job → List ℕ → List Letter → List Letter → Opening
 opening_of jobs name left right =
     if is_some (find_job name jobs) then twice
-    else (if nat_lt (length jobs) MAX_JOBS then (if nat_lt MAX_LETTERS (length (quotient left right)) then too_long else free)
+    else (if nat_lt (length jobs) MAX_JOBS
+    then (if nat_lt MAX_LETTERS (length (quotient left right)) then too_long else free)
     else full)
 
 -- The jobs after an opening: only a free one adds the job, and puts it last.
@@ -85,7 +86,8 @@ opened free job jobs = jobs ++ job ∷ []
 -- The jobs after a command.
 abbrev pub after : List Job → Command → List Job
 after jobs (Begin name handles limit left right) =
-    opened (opening_of jobs name left right) (record { name = name; left = left; right = right; handles = handles; limit = limit; turns = 0 }) jobs
+    opened (opening_of jobs name left right)
+    (record { name = name; left = left; right = right; handles = handles; limit = limit; turns = 0 }) jobs
 after jobs (Turn name count) = turn_job name count jobs
 after jobs (Show name) = jobs
 after jobs (Take name) = jobs

@@ -2,7 +2,7 @@
 -- No public clause cites this.
 use Rattle.std.specs.Prelude.{◌≡◌, ℕ, ◌≤◌, List, [], map, Option, Some, None}
 use Rattle.std.specs.List.{AllByRecursion, IsDistinct}
-use Rattle.std.specs.Map.{keys_of}
+use Rattle.std.specs.Map.{keys_of, lookup}
 use Rattle.std.specs.Str.{bytes_eq}
 use Rattle.slab.specs.Slab.{Slab, get}
 use Rattle.braid_word.specs.Words.{quotient}
@@ -35,7 +35,13 @@ jobs_of jobs entries = map (λ (entry : List ℕ × ℕ). job_or (get jobs entry
 abbrev pub Keeps : Slab Job → List (List ℕ × ℕ) → Type 0
 Keeps jobs entries = AllByRecursion (HasJob jobs) entries
 
--- No name is open twice, and each has its job.
+-- Each job stands under the key of its name: a job that was closed isn't kept.
+abbrev pub HasKeys : Slab Job → List (List ℕ × ℕ) → Type 0
+HasKeys jobs entries =
+    (key : ℕ) (job : Job) → get jobs key ≡ Some job → lookup (bytes_eq job.name) entries ≡ Some key
+
+-- No name is open twice, each has its job, and each job its name.
 pub record IsKept (jobs : Slab Job) (entries : List (List ℕ × ℕ)) : Type 0 where
   pub distinct : IsDistinct bytes_eq (keys_of entries)
   pub each : Keeps jobs entries
+  pub owned : HasKeys jobs entries

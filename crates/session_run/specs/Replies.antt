@@ -53,7 +53,8 @@ close_reply name (Some j) = reply.Closed name
 
 -- The reply to a command.
 abbrev pub reply_to : List Job → Command → Reply
-reply_to jobs (command.Begin name handles limit left right) = opening_reply (opening_of jobs name left right) name left right
+reply_to jobs (command.Begin name handles limit left right) =
+    opening_reply (opening_of jobs name left right) name left right
 reply_to jobs (command.Turn name count) = turn_reply name count (find_job name jobs)
 reply_to jobs (command.Show name) = state_reply name (find_job name jobs)
 reply_to jobs (command.Take name) = take_reply name (find_job name jobs)

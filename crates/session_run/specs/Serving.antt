@@ -14,7 +14,7 @@ use Rattle.std.specs.Prelude.{◌≡◌, ℕ, ◌+◌, ◌-◌, ◌<◌, ◌≤�
 use Rattle.std.specs.Io.KnownBytes.{prepend_known, append_known, IsAtEnd}
 use Rattle.wb_base.specs.Lines.{lines_of, whole_lines}
 use Rattle.wb_base.specs.Status.{Answer}
-use Rattle.wb_base.specs.Streams.{PutsFront, Rose}
+use Rattle.wb_base.specs.Streams.{Ends, PutsFront, Rose}
 use Rattle.wb_base.specs.declared.status.Status.{Status}
 use Rattle.wb_base.specs.declared.status.Status.TheVariants.{Done, Refused, Words, Input, Limit, ReadFault, WriteFault, Memory}
 use Rattle.session_run.specs.declared.TheConstants.{MAX_INPUT, MAX_PIECE}
@@ -57,19 +57,12 @@ IsTold answer Input old new = ⊥
 
 -- ---- Within a session ----
 
--- A source and a sink, as a session sees them.
-pub record Ends : Type 0 where
-  pub left : Option (List ℕ)
-  pub reads : ℕ
-  pub calls : ℕ
-  pub taken : Option (List ℕ)
-  pub waiting : ℕ
-  pub writes : ℕ
-
 -- What was given, for the bytes taken and for what is left.
 abbrev pub Leaves : Status → List ℕ → Option (List ℕ) → List ℕ → Type 0
-Leaves Done front left given = (length front ≤ MAX_INPUT) × IsAtEnd left × (given ≡ answers [] (lines_of front))
-Leaves Limit front left given = (length front ≡ MAX_INPUT + 1) × (given ≡ answers [] (whole_lines (take MAX_INPUT front)) ++ limit_line)
+Leaves Done front left given =
+    (length front ≤ MAX_INPUT) × IsAtEnd left × (given ≡ answers [] (lines_of front))
+Leaves Limit front left given =
+    (length front ≡ MAX_INPUT + 1) × (given ≡ answers [] (whole_lines (take MAX_INPUT front)) ++ limit_line)
 Leaves ReadFault front left given = given ≡ answers [] (whole_lines front)
 Leaves WriteFault front left given = IsCutOff front (told left) given
 Leaves Memory front left given = IsShort front given

@@ -71,7 +71,8 @@ fn first_other(text: &[u8]) -> Option<usize>
 
 // The first field of a text, and what follows it.
 fn split_field(text: &[u8]) -> Option<(&[u8], &[u8])>
-    ensures { MatchOption result (fields_of text.now ≡ []) (λ p. fields_of text.now ≡ p.0.now ∷ fields_of p.1.now) }
+    ensures { MatchOption result (fields_of text.now ≡ [])
+        (λ p. fields_of text.now ≡ p.0.now ∷ fields_of p.1.now) }
 {
     let text = &text[first_other(text)?..];
     match first_space(text) {
@@ -191,7 +192,8 @@ fn read_head(text: &[u8]) -> Option<(Name, u32, u32)>
 // second.
 fn read_begin(alloc: Global, head: &[u8], left: &[u8], right: &[u8]) -> Result<Command, CommandErr>
     ensures numbers { IfOk result HasSmallNumbers }
-    ensures exact { Gives result (begin_by (head_of (fields_of head.now)) (word_of left.now) (word_of right.now)) }
+    ensures exact { Gives result
+        (begin_by (head_of (fields_of head.now)) (word_of left.now) (word_of right.now)) }
 {
     let Some((name, handles, length)) = read_head(head) else {
         return Err(CommandErr::Bad);
@@ -228,7 +230,9 @@ fn first_bar(text: &[u8]) -> Option<usize>
 
 // What stands before the first bar of a text, and what follows it.
 fn split_bar(text: &[u8]) -> Option<(&[u8], &[u8])>
-    ensures { MatchOption result (slice_split (λ byte. byte == 124) text.now ≡ text.now ∷ []) (λ p. slice_split (λ byte. byte == 124) text.now ≡ p.0.now ∷ slice_split (λ byte. byte == 124) p.1.now) }
+    ensures { MatchOption result (slice_split (λ byte. byte == 124) text.now ≡ text.now ∷ [])
+        (λ p. slice_split (λ byte. byte == 124) text.now
+        ≡ p.0.now ∷ slice_split (λ byte. byte == 124) p.1.now) }
 {
     let at = first_bar(text)?;
     Some((&text[..at], &text[at + 1..]))

@@ -33,9 +33,24 @@ impl Model for Job {
 
     ghost Value = { Kept };
 
-    ghost view = { λ s. record { name = s.name; left = s.left; right = s.right; handles = s.handles; limit = s.limit; turns = s.turns } };
+    ghost view = { λ s. record {
+      name = s.name;
+      left = s.left;
+      right = s.right;
+      handles = s.handles;
+      limit = s.limit;
+      turns = s.turns;
+    } };
 
-    ghost invariant = { λ s. Works (record { name = s.name; left = s.left; right = s.right; handles = s.handles; limit = s.limit; turns = s.turns }) s.reducer };
+    ghost invariant = { λ s. Works
+        (record {
+          name = s.name;
+          left = s.left;
+          right = s.right;
+          handles = s.handles;
+          limit = s.limit;
+          turns = s.turns;
+        }) s.reducer };
 }
 
 impl Job {
@@ -50,7 +65,15 @@ impl Job {
         requires short { length (quotient words.0 words.1) ≤ MAX_LETTERS }
         requires handles { handles ≤ MAX_BOUND }
         requires limit { limit ≤ MAX_BOUND }
-        ensures { IfOk result (λ j. j ≡ record { name = name; left = words.0; right = words.1; handles = handles; limit = limit; turns = 0 }) }
+        ensures { IfOk result
+            (λ j. j ≡ record {
+              name = name;
+              left = words.0;
+              right = words.1;
+              handles = handles;
+              limit = limit;
+              turns = 0;
+            }) }
     {
         let (left, right) = words;
         let word = quotient(alloc, left.letters(), right.letters())?;

@@ -14,8 +14,10 @@ pub fn law_own_turns()
 {}
 
 /// Where no opening finds as many jobs open as may be, the replies to the commands on one name are those of
-/// these commands alone.
+/// these commands alone, and so is the job of the name: its words, its run, and thus the trace that is taken.
 pub fn law_own_replies()
-    ensures { (name : List ℕ) → (cs : List Command) → NoneFull [] cs
+    ensures replies { (name : List ℕ) → (cs : List Command) → NoneFull [] cs
         → own_replies name [] cs ≡ replies [] (own_lines name cs) }
+    ensures job { (name : List ℕ) → (cs : List Command) → NoneFull [] cs
+        → find_job name (after_all [] (own_lines name cs)) ≡ find_job name (after_all [] cs) }
 {}

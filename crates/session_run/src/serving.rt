@@ -22,7 +22,8 @@ fn finish<K: Sink>(
     ensures took { Puts (K.taken sink.old) (K.taken sink.new) result (last_answer session.old rest.now) }
     ensures later { K.faults sink.old ≤ K.faults sink.new }
     ensures fault { result ≡ Err Stop.Fault → Rose (K.faults sink.old) (K.faults sink.new) }
-    ensures memory { result ≡ Err Stop.Memory → (0 < length rest.now) × (K.taken sink.new ≡ K.taken sink.old) }
+    ensures memory { result ≡ Err Stop.Memory
+        → (0 < length rest.now) × (K.taken sink.new ≡ K.taken sink.old) }
     ensures waits { result ≢ Err Stop.Fault → K.waiting sink.old ≡ 0 → K.waiting sink.new ≡ 0 }
 {
     if rest.is_empty() {
@@ -45,8 +46,22 @@ fn put_limit<K: Sink>(sink: &mut K) -> Result<(), Failed>
 // Serves a session. At the limit it asks for one byte more, which it doesn't hear.
 fn converse<S: Source, K: Sink>(alloc: Global, source: &mut S, sink: &mut K) -> Status
     ensures { HasServed
-        (record { left = S.left source.old; reads = S.faults source.old; calls = S.calls source.old; taken = K.taken sink.old; waiting = K.waiting sink.old; writes = K.faults sink.old })
-        (record { left = S.left source.new; reads = S.faults source.new; calls = S.calls source.new; taken = K.taken sink.new; waiting = K.waiting sink.new; writes = K.faults sink.new })
+        (record {
+          left = S.left source.old;
+          reads = S.faults source.old;
+          calls = S.calls source.old;
+          taken = K.taken sink.old;
+          waiting = K.waiting sink.old;
+          writes = K.faults sink.old;
+        })
+        (record {
+          left = S.left source.new;
+          reads = S.faults source.new;
+          calls = S.calls source.new;
+          taken = K.taken sink.new;
+          waiting = K.waiting sink.new;
+          writes = K.faults sink.new;
+        })
         result }
 {
     let mut session = Session::new(alloc);
@@ -87,26 +102,37 @@ fn converse<S: Source, K: Sink>(alloc: Global, source: &mut S, sink: &mut K) -> 
 /// input, `Limit`, `ReadFault`, `WriteFault` and `Memory`.
 pub fn serve<S: Source, K: Sink>(alloc: Global, source: &mut S, sink: &mut K) -> Status
     // What is written, and with which status, is a function of the input.
-    ensures answer { IfSome (S.left source.old) (λ input. IsTold (session_answer input) result (K.taken sink.old) (K.taken sink.new)) }
+    ensures answer { IfSome (S.left source.old)
+        (λ input. IsTold (session_answer input) result (K.taken sink.old) (K.taken sink.new)) }
 
     // At the end of the input all its lines were answered.
-    ensures done { result ≡ Status.Done → (input : List ℕ) × ReadsAll (S.left source.old) (S.left source.new) input × (length input ≤ MAX_INPUT)
+    ensures done { result ≡ Status.Done
+        → (input : List ℕ) × ReadsAll (S.left source.old) (S.left source.new) input
+        × (length input ≤ MAX_INPUT)
         × (K.taken sink.new ≡ append_known (K.taken sink.old) (answers [] (lines_of input))) }
 
     // One byte past the limit the lines that end within it were answered, and the limit was named.
-    ensures limit { result ≡ Status.Limit → (front : List ℕ) × (length front ≡ MAX_INPUT + 1) × (S.left source.old ≡ prepend_known front (S.left source.new))
-        × (K.taken sink.new ≡ append_known (K.taken sink.old) (answers [] (whole_lines (take MAX_INPUT front)) ++ limit_line)) }
+    ensures limit { result ≡ Status.Limit
+        → (front : List ℕ) × (length front ≡ MAX_INPUT + 1)
+        × (S.left source.old ≡ prepend_known front (S.left source.new))
+        × (K.taken sink.new
+        ≡ append_known (K.taken sink.old)
+        (answers [] (whole_lines (take MAX_INPUT front)) ++ limit_line)) }
 
     // At a fault of the source exactly the whole lines among the bytes taken were answered.
-    ensures read { result ≡ Status.ReadFault → (front : List ℕ) × (S.left source.old ≡ prepend_known front (S.left source.new))
+    ensures read { result ≡ Status.ReadFault
+        → (front : List ℕ) × (S.left source.old ≡ prepend_known front (S.left source.new))
         × (K.taken sink.new ≡ append_known (K.taken sink.old) (answers [] (whole_lines front))) }
 
     // At a fault of the sink a front of the answer was taken, with the answers to the settled whole lines.
-    ensures write { result ≡ Status.WriteFault → (front : List ℕ) × (given : List ℕ) × (S.left source.old ≡ prepend_known front (S.left source.new))
-        × (K.taken sink.new ≡ append_known (K.taken sink.old) given) × IsCutOff front (told (S.left source.new)) given }
+    ensures write { result ≡ Status.WriteFault
+        → (front : List ℕ) × (given : List ℕ) × (S.left source.old ≡ prepend_known front (S.left source.new))
+        × (K.taken sink.new ≡ append_known (K.taken sink.old) given)
+        × IsCutOff front (told (S.left source.new)) given }
 
     // For want of memory the lines before the one that met it were answered, at least the settled ones.
-    ensures memory { result ≡ Status.Memory → (front : List ℕ) × (given : List ℕ) × (S.left source.old ≡ prepend_known front (S.left source.new))
+    ensures memory { result ≡ Status.Memory
+        → (front : List ℕ) × (given : List ℕ) × (S.left source.old ≡ prepend_known front (S.left source.new))
         × (K.taken sink.new ≡ append_known (K.taken sink.old) given) × IsShort front given }
 
     // No other status comes.
@@ -123,8 +149,22 @@ pub fn serve<S: Source, K: Sink>(alloc: Global, source: &mut S, sink: &mut K) ->
 
     // What was read and written, with each status, in one.
     ensures served { HasServed
-        (record { left = S.left source.old; reads = S.faults source.old; calls = S.calls source.old; taken = K.taken sink.old; waiting = K.waiting sink.old; writes = K.faults sink.old })
-        (record { left = S.left source.new; reads = S.faults source.new; calls = S.calls source.new; taken = K.taken sink.new; waiting = K.waiting sink.new; writes = K.faults sink.new })
+        (record {
+          left = S.left source.old;
+          reads = S.faults source.old;
+          calls = S.calls source.old;
+          taken = K.taken sink.old;
+          waiting = K.waiting sink.old;
+          writes = K.faults sink.old;
+        })
+        (record {
+          left = S.left source.new;
+          reads = S.faults source.new;
+          calls = S.calls source.new;
+          taken = K.taken sink.new;
+          waiting = K.waiting sink.new;
+          writes = K.faults sink.new;
+        })
         result }
 
     // A front of the input was taken, no further than one byte past the limit, in at most so many calls.

@@ -149,7 +149,15 @@ impl Session {
         requires short { length (quotient words.0 words.1) ≤ MAX_LETTERS }
         requires handles { handles ≤ MAX_BOUND }
         requires limit { limit ≤ MAX_BOUND }
-        ensures ok { OnOk result (self.new ≡ self.old ++ record { name = name; left = words.0; right = words.1; handles = handles; limit = limit; turns = 0 } ∷ []) }
+        ensures ok { OnOk result
+            (self.new ≡ self.old ++ record {
+              name = name;
+              left = words.0;
+              right = words.1;
+              handles = handles;
+              limit = limit;
+              turns = 0;
+            } ∷ []) }
         ensures err { OnErr result (self.new ≡ self.old) }
     {
         self.keys.reserve(1)?;
@@ -166,8 +174,18 @@ impl Session {
     fn begin(&mut self, name: Name, words: (Word, Word), handles: u32, limit: u32) -> Reply
         requires handles { handles ≤ MAX_BOUND }
         requires limit { limit ≤ MAX_BOUND }
-        ensures reply { result ≢ Reply.Memory → result ≡ opening_reply (opening_of self.old name words.0 words.1) name words.0 words.1 }
-        ensures jobs { result ≢ Reply.Memory → self.new ≡ opened (opening_of self.old name words.0 words.1) (record { name = name; left = words.0; right = words.1; handles = handles; limit = limit; turns = 0 }) self.old }
+        ensures reply { result ≢ Reply.Memory
+            → result ≡ opening_reply (opening_of self.old name words.0 words.1) name words.0 words.1 }
+        ensures jobs { result ≢ Reply.Memory
+            → self.new ≡ opened (opening_of self.old name words.0 words.1)
+            (record {
+              name = name;
+              left = words.0;
+              right = words.1;
+              handles = handles;
+              limit = limit;
+              turns = 0;
+            }) self.old }
         ensures memory { result ≡ Reply.Memory → self.new ≡ self.old }
     {
         if self.is_open(name) {
@@ -200,8 +218,10 @@ impl Session {
         ensures writable { result ≢ Reply.Memory → CanPut self.new result }
 
         // No other job changes, and the job of this name goes on as its own command says.
-        ensures others { (name : List ℕ) → is_on name command ≡ false → find_job name self.new ≡ find_job name self.old }
-        ensures own { (name : List ℕ) → (j : Kept) → find_job name self.old ≡ Some j → is_on name command ≡ true → find_job name self.new ≡ lives j command }
+        ensures others { (name : List ℕ) → is_on name command ≡ false
+            → find_job name self.new ≡ find_job name self.old }
+        ensures own { (name : List ℕ) → (j : Kept) → find_job name self.old ≡ Some j
+            → is_on name command ≡ true → find_job name self.new ≡ lives j command }
     {
         self.perform(command)
     }

@@ -84,15 +84,25 @@ pub(crate) fn hear<K: Sink>(
     rest: &mut Vec<u8>,
     bytes: &[u8],
 ) -> Result<(), Stop>
-    ensures jobs { OnOk result (session.new ≡ (heard_all (record { jobs = session.old; rest = rest.old.items; text = [] }) bytes.now).jobs) }
-    ensures rest { OnOk result (rest.new.items ≡ (heard_all (record { jobs = session.old; rest = rest.old.items; text = [] }) bytes.now).rest) }
-    ensures took { Puts (K.taken sink.old) (K.taken sink.new) result (heard_all (record { jobs = session.old; rest = rest.old.items; text = [] }) bytes.now).text }
+    ensures jobs { OnOk result
+        (session.new
+        ≡ (heard_all (record { jobs = session.old; rest = rest.old.items; text = [] }) bytes.now).jobs) }
+    ensures rest { OnOk result
+        (rest.new.items
+        ≡ (heard_all (record { jobs = session.old; rest = rest.old.items; text = [] }) bytes.now).rest) }
+    ensures took { Puts (K.taken sink.old) (K.taken sink.new) result
+        (heard_all (record { jobs = session.old; rest = rest.old.items; text = [] }) bytes.now).text }
     ensures waits { result ≢ Err Stop.Fault → K.waiting sink.old ≡ 0 → K.waiting sink.new ≡ 0 }
     ensures later { K.faults sink.old ≤ K.faults sink.new }
     ensures fault { result ≡ Err Stop.Fault → Rose (K.faults sink.old) (K.faults sink.new) }
 
     // For want of memory it ends before one of the bytes.
-    ensures memory { result ≡ Err Stop.Memory → (i : ℕ) × (i < length bytes.now) × (K.taken sink.new ≡ append_known (K.taken sink.old) (heard_all (record { jobs = session.old; rest = rest.old.items; text = [] }) (take i bytes.now)).text) }
+    ensures memory { result ≡ Err Stop.Memory
+        → (i : ℕ) × (i < length bytes.now)
+        × (K.taken sink.new
+        ≡ append_known (K.taken sink.old)
+        (heard_all (record { jobs = session.old; rest = rest.old.items; text = [] })
+        (take i bytes.now)).text) }
 {
     for byte in bytes {
         if *byte == b'\n' {

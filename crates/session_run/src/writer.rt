@@ -47,7 +47,8 @@ fn put_state<K: Sink>(sink: &mut K, job: JobLine) -> Result<(), Failed>
 
 // Gives the lines of the states of all jobs.
 fn put_states<K: Sink>(sink: &mut K, session: &Session) -> Result<(), Failed>
-    ensures took { Puts (K.taken sink.old) (K.taken sink.new) result (flat_map state_text (map line_of session.now)) }
+    ensures took { Puts (K.taken sink.old) (K.taken sink.new) result
+        (flat_map state_text (map line_of session.now)) }
     ensures cause { HasCause (K.faults sink.old) (K.faults sink.new) result }
 {
     for k in 0..session.job_count() {

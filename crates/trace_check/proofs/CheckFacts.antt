@@ -9,7 +9,7 @@ use Rattle.trace_format.specs.declared.verdict.Verdict.TheVariants.{Less, Equal}
 use Rattle.trace_format.specs.declared.line.StepLine.TheVariants.{Handle, Commute, Swap, Delete, Insert}
 use Rattle.trace_format.specs.TraceLines.{line_of}
 use Rattle.trace_check.specs.declared.checked.Why.TheVariants.{Form, Header, Step, Long, Witness, Sign, Truncated, Extra}
-use Rattle.trace_check.specs.declared.due.Due.TheVariants as due
+use Rattle.trace_check.specs.States as due
 use Rattle.trace_check.specs.Accepted.{IsCommutation, IsSteps}
 use Rattle.trace_check.specs.Checking.{stepped, kept, checked_of}
 use Rattle.trace_check.specs.FirstRefusal.{IsFirstRefusal}
@@ -24,7 +24,8 @@ quotient_word = letter 2 true ∷ letter 1 true ∷ letter 2 false ∷ letter 1 
 abbrev reduced_word : List Letter
 reduced_word = letter 2 true ∷ letter 2 false ∷ letter 1 false ∷ letter 2 true ∷ []
 
--- places count from 1; `-1 2` is no handle, nor is `-2 -1 2`, in which 1 is below 2, and none ends behind the word
+-- places count from 1; `-1 2` is no handle, nor is `-2 -1 2`, in which 1 is below 2, and none ends behind the
+-- word
 handle_rows
     : map (stepped quotient_word) (Handle 2 4 ∷ Handle 2 3 ∷ Handle 1 3 ∷ Handle 2 5 ∷ [])
     ≡ Ok reduced_word ∷ Err Step ∷ Err Step ∷ Err Step ∷ []
@@ -40,14 +41,17 @@ later_handle_row = refl
 
 -- `2 1 -3` becomes `2 -3 1`, whatever the signs; indices 2 and 1 don't commute, nor does the last letter
 commute_rows
-    : map (stepped (letter 2 false ∷ letter 1 false ∷ letter 3 true ∷ [])) (Commute 2 ∷ Commute 1 ∷ Commute 3 ∷ [])
+    : map (stepped (letter 2 false ∷ letter 1 false ∷ letter 3 true ∷ []))
+    (Commute 2 ∷ Commute 1 ∷ Commute 3 ∷ [])
     ≡ Ok (letter 2 false ∷ letter 3 true ∷ letter 1 false ∷ []) ∷ Err Step ∷ Err Step ∷ []
 commute_rows = refl
 
--- `-1 -2 -1` becomes `-2 -1 -2`; `2 -1 -2` has two signs, -1 and -3 are too far apart, and `-3 -1` are two letters
+-- `-1 -2 -1` becomes `-2 -1 -2`; `2 -1 -2` has two signs, -1 and -3 are too far apart, and `-3 -1` are two
+-- letters
 swap_rows
     : map
-    (stepped (letter 2 false ∷ letter 1 true ∷ letter 2 true ∷ letter 1 true ∷ letter 3 true ∷ letter 1 true ∷ []))
+    (stepped (letter 2 false ∷ letter 1 true ∷ letter 2 true ∷ letter 1 true ∷ letter 3 true ∷ letter 1 true ∷
+    []))
     (Swap 2 ∷ Swap 1 ∷ Swap 4 ∷ Swap 5 ∷ [])
     ≡ Ok (letter 2 false ∷ letter 2 true ∷ letter 1 true ∷ letter 2 true ∷ letter 3 true ∷ letter 1 true ∷ [])
     ∷ Err Step ∷ Err Step ∷ Err Step ∷ []
@@ -55,14 +59,17 @@ swap_rows = refl
 
 -- `1 1 -1` becomes `1`, and two equal letters stay
 delete_rows
-    : map (stepped (letter 1 false ∷ letter 1 false ∷ letter 1 true ∷ [])) (Delete 2 ∷ Delete 1 ∷ Delete 3 ∷ [])
+    : map (stepped (letter 1 false ∷ letter 1 false ∷ letter 1 true ∷ []))
+    (Delete 2 ∷ Delete 1 ∷ Delete 3 ∷ [])
     ≡ Ok (letter 1 false ∷ []) ∷ Err Step ∷ Err Step ∷ []
 delete_rows = refl
 
 -- `-3` and then its inverse are put before the letter at a place, and behind the last letter, but no further
 insert_rows
-    : map (stepped (letter 2 false ∷ [])) (Insert 1 (letter 3 true) ∷ Insert 2 (letter 3 true) ∷ Insert 3 (letter 3 true) ∷ [])
-    ≡ Ok (letter 3 true ∷ letter 3 false ∷ letter 2 false ∷ []) ∷ Ok (letter 2 false ∷ letter 3 true ∷ letter 3 false ∷ []) ∷ Err Step ∷ []
+    : map (stepped (letter 2 false ∷ []))
+    (Insert 1 (letter 3 true) ∷ Insert 2 (letter 3 true) ∷ Insert 3 (letter 3 true) ∷ [])
+    ≡ Ok (letter 3 true ∷ letter 3 false ∷ letter 2 false ∷ []) ∷ Ok
+    (letter 2 false ∷ letter 3 true ∷ letter 3 false ∷ []) ∷ Err Step ∷ []
 insert_rows = refl
 
 -- a step may lead to 100,000 letters, and to no more
@@ -88,7 +95,13 @@ steps_row = (
   reduced_word,
   (
     omega arith,
-    record { ordered = omega arith; within = omega arith; one_index = refl; opposite_signs = refl; higher_between = between },
+    record {
+      ordered = omega arith;
+      within = omega arith;
+      one_index = refl;
+      opposite_signs = refl;
+      higher_between = between;
+    },
     refl,
   ),
   omega arith,
@@ -96,7 +109,13 @@ steps_row = (
     letter 1 false ∷ letter 2 true ∷ [],
     (
       omega arith,
-      record { ordered = omega arith; within = omega arith; one_index = refl; opposite_signs = refl; higher_between = λ k low high. absurd (omega arith) },
+      record {
+        ordered = omega arith;
+        within = omega arith;
+        one_index = refl;
+        opposite_signs = refl;
+        higher_between = λ k low high. absurd (omega arith);
+      },
       refl,
     ),
     omega arith,
@@ -139,7 +158,8 @@ accepted_row = refl
 
 -- that of x(xx) and (xx)(xx), which are one by the law
 terms_row
-    : checked_of (codes "braid-trace 1\nleft-term (x*(x*x))\nright-term ((x*x)*(x*x))\nh 1 3\nh 3 4\nh 2 3\nh 1 2\nverdict equal\nwitness\nend\n")
+    : checked_of
+    (codes "braid-trace 1\nleft-term (x*(x*x))\nright-term ((x*x)*(x*x))\nh 1 3\nh 3 4\nh 2 3\nh 1 2\nverdict equal\nwitness\nend\n")
     ≡ Ok record {
       left = letter 2 false ∷ letter 1 false ∷ [];
       right = letter 1 false ∷ letter 2 false ∷ letter 1 false ∷ letter 2 true ∷ [];
@@ -150,26 +170,32 @@ terms_row
 unfolding checked_of kept line_of strict_term_of reduct xor
 terms_row = refl
 
--- that of `1 2` and `2 1` with line 4 changed, to no handle and to a place with a leading zero, with the wrong
--- verdict, and with a witness that isn't come to, though its sign is right
+-- that of `1 2` and `2 1` with line 4 changed, to no handle and to a place with a leading zero, with the
+-- wrong verdict, and with a witness that isn't come to, though its sign is right
 refused_rows
     : map
     (λ others. checked_of (codes "braid-trace 1\nleft 1 2\nright 2 1\n" ++ others))
-    (codes "h 2 3\n" ∷ (codes "h 02 4\n" ∷ (codes "h 2 4\nh 1 2\nverdict greater\nwitness 1 -2\nend\n" ∷ (codes "h 2 4\nh 1 2\nverdict less\nwitness 1\nend\n" ∷ []))))
+    (codes "h 2 3\n" ∷
+    (codes "h 02 4\n" ∷
+    (codes "h 2 4\nh 1 2\nverdict greater\nwitness 1 -2\nend\n" ∷
+    (codes "h 2 4\nh 1 2\nverdict less\nwitness 1\nend\n" ∷ []))))
     ≡ Err (4, Step) ∷ Err (4, Form) ∷ Err (7, Sign) ∷ Err (7, Witness) ∷ []
 unfolding checked_of kept line_of strict_word_of reduct xor
 refused_rows = refl
 
 -- a mixed witness goes with no verdict; another one isn't the present word, which is said first
 mixed_rows
-    : map (λ witness. checked_of (codes "braid-trace 1\nleft 1\nright 1\nverdict equal\n" ++ witness)) (codes "witness -1 1\n" ∷ (codes "witness 1 -1\n" ∷ []))
+    : map (λ witness. checked_of (codes "braid-trace 1\nleft 1\nright 1\nverdict equal\n" ++ witness))
+    (codes "witness -1 1\n" ∷ (codes "witness 1 -1\n" ∷ []))
     ≡ Err (5, Sign) ∷ Err (5, Witness) ∷ []
 unfolding checked_of kept line_of strict_word_of
 mixed_rows = refl
 
 -- no bytes, an end without its LF, and an empty line behind the end
 ending_rows
-    : map checked_of ([] ∷ (codes "braid-trace 1\nleft\nright\nverdict equal\nwitness\nend" ∷ (codes "braid-trace 1\nleft\nright\nverdict equal\nwitness\nend\n\n" ∷ [])))
+    : map checked_of
+    ([] ∷ (codes "braid-trace 1\nleft\nright\nverdict equal\nwitness\nend" ∷
+    (codes "braid-trace 1\nleft\nright\nverdict equal\nwitness\nend\n\n" ∷ [])))
     ≡ Err (1, Truncated) ∷ Err (6, Truncated) ∷ Err (7, Extra) ∷ []
 unfolding checked_of kept line_of
 ending_rows = refl
@@ -180,9 +206,9 @@ unfolding kept line_of
 header_row = record {
   before = codes "braid-trace 1" ∷ [];
   others = codes "right" ∷ (codes "end" ∷ []);
-  last = due.Left;
+  last = due.left;
   lines = refl;
   number = refl;
-  kept = (due.Left, refl, refl);
+  kept = (due.left, refl, refl);
   refused = refl;
 }

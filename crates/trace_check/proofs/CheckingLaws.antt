@@ -14,170 +14,25 @@ use Rattle.braid_word.specs.Sign.{sign_of}
 use Rattle.braid_word.specs.declared.TheConstants.{MAX_LETTERS}
 use Rattle.ld_term.specs.Terms.{Term}
 use Rattle.term_eval.specs.Braids.{braid}
-use Rattle.trace_format.specs.declared.verdict.Verdict.{Verdict}
 use Rattle.trace_format.specs.declared.line.StepLine.{StepLine}
 use Rattle.trace_format.specs.Said.{Said}
 use Rattle.trace_format.specs.Said as said
 use Rattle.trace_format.specs.Verdicts.{verdict_of}
 use Rattle.trace_format.specs.TraceText.{Header, words, terms, Trace, trace_text}
-use Rattle.trace_format.specs.TraceLines.{line_text, IsStepLine, IsShortTerm, IsLine, IsHeader, IsTrace}
+use Rattle.trace_format.specs.TraceLines.{line_text, IsShortTerm, IsLine, IsHeader, IsTrace}
 use Rattle.trace_format.proofs.LineLaws.{line_text-no_lf}
 use Rattle.trace_format.proofs.TraceLaws.{tail_lines, step_lines, left_line, right_line, trace_lines, trace_text-lines}
 use Rattle.trace_check.specs.Accepted.{left_word, right_word, quotient_of, IsSteps, IsAccepted, Claim, claim_of, IsValid}
-use Rattle.trace_check.specs.Checking.{claimed, walk, checked_of, Gives}
+use Rattle.trace_check.specs.Checking.{walk, checked_of, Gives}
 use Rattle.trace_check.specs.declared.checked.CheckErr.{CheckErr}
-use Rattle.trace_check.specs.declared.replay.Replay.{Replay}
-use Rattle.trace_check.specs.declared.due.Due.{Due}
-use Rattle.trace_check.specs.declared.due.Due.TheVariants as due
+use Rattle.trace_check.specs.States.{State}
+use Rattle.trace_check.specs.States as due
 use Rattle.trace_check.proofs.AcceptedLemmas.{IsValid-accepted}
 use Rattle.trace_check.proofs.VerdictLemmas.{Shows-verdict_of, verdict_of-Shows}
 use Rattle.trace_check.proofs.CuttingLemmas.{cut-line, joined, cut-is}
-use Rattle.trace_check.proofs.KeptLaws.{begun, at_word}
+use Rattle.trace_check.proofs.KeptLaws.{begun}
 use Rattle.trace_check.proofs.WalkLaws.{Leads, walk-Leads, Leads-walk}
-
--- ---- Steps, verdict, witness and end ----
-
--- The number of steps, counted up to the greatest of 64 bits.
-abbrev pub counted : ℕ → List StepLine → ℕ
-counted n [] = n
-counted n (step ∷ steps) = counted (one_more n) steps
-
--- What a replay claims with these steps more.
-abbrev claim_from : Replay → List StepLine → Verdict → List Letter → Claim
-claim_from replay steps verdict witness = record {
-  left = replay.left;
-  right = replay.right;
-  verdict = verdict;
-  witness = witness;
-  steps = counted replay.steps steps;
-}
-
--- Lines from a replay on are those of steps that lead to a witness of the verdict.
-record IsReplayed (replay : Replay) (all : List Said) (claim : Claim) : Type 0 where
-  steps : List StepLine
-  verdict : Verdict
-  witness : List Letter
-  lines_are : all ≡ step_lines steps (tail_lines verdict witness)
-  bounds : AllByRecursion IsStepLine steps
-  readable : IsReadable witness
-  leads : IsSteps replay.present steps witness
-  sign : verdict_of (sign_of witness) ≡ Some verdict
-  claims : claim ≡ claim_from replay steps verdict witness
-
--- the end leads to what is claimed
-Leads-Passed
-    : (c : Claim) (all : List Said) (claim : Claim)
-    → Leads (due.Passed c) all claim
-    → (all ≡ []) × (claim ≡ c)
-Leads-Passed c [] claim leads = (refl, (let same : c ≡ claim = Passed-injective c claim leads in sym same))
-  where
-    Passed-injective : (c d : Claim) → due.Passed c ≡ due.Passed d → c ≡ d
-    Passed-injective c d same = cc
-Leads-Passed c (l ∷ all) claim (next, bounds, follows, leads) = absurd follows
-
--- so does the line of the end
-Leads-Finish
-    : (replay : Replay) (verdict : Verdict) (all : List Said) (claim : Claim)
-    → Leads (due.Finish replay verdict) all claim
-    → (all ≡ said.finish ∷ []) × (claim ≡ claimed replay verdict)
-Leads-Finish replay verdict [] claim leads = absurd (cc)
-Leads-Finish replay verdict (said.finish ∷ all) claim (next, bounds, follows, leads) =
-    let (none, same) = Leads-Passed (claimed replay verdict) all claim
-    (subst (λ d. Leads d all claim) follows leads) in
-    (ap (λ rest. said.finish ∷ rest) none, same)
-Leads-Finish replay verdict (l ∷ all) claim (next, bounds, follows, leads) = absurd follows
-
--- What a witness line and the end show.
-record IsShown (replay : Replay) (verdict : Verdict) (all : List Said) (claim : Claim) : Type 0 where
-  lines_are : all ≡ said.witness replay.present ∷ said.finish ∷ []
-  readable : IsReadable replay.present
-  sign : verdict_of (sign_of replay.present) ≡ Some verdict
-  claims : claim ≡ claimed replay verdict
-
--- so do the lines of the witness and of the end
-Leads-Witness
-    : (replay : Replay) (verdict : Verdict) (all : List Said) (claim : Claim)
-    → Leads (due.Witness replay verdict) all claim
-    → IsShown replay verdict all claim
-Leads-Witness replay verdict [] claim leads = absurd (cc)
-Leads-Witness replay verdict (said.witness w ∷ all) claim (next, bounds, (same, sign, follows), leads) =
-    let (last, claims) = Leads-Finish replay verdict all claim
-    (subst (λ d. Leads d all claim) follows leads) in
-    record {
-      lines_are = ap₂ (λ w rest. said.witness w ∷ rest) same last;
-      readable = subst IsReadable same bounds;
-      sign = subst (λ w. verdict_of (sign_of w) ≡ Some verdict) same sign;
-      claims = claims;
-    }
-Leads-Witness replay verdict (l ∷ all) claim (next, bounds, follows, leads) = absurd follows
-
--- the lines from a replay on
-Leads-Step
-    : (replay : Replay) (all : List Said) (claim : Claim)
-    → Leads (due.Step replay) all claim
-    → IsReplayed replay all claim
-Leads-Step replay [] claim leads = absurd (cc)
-Leads-Step replay (said.step step ∷ all) claim (next, bounds, follows, leads) =
-    let more = Leads-Step (at_word replay follows.word) all claim
-    (subst (λ d. Leads d all claim) follows.due leads) in
-    record {
-      steps = step ∷ more.steps;
-      verdict = more.verdict;
-      witness = more.witness;
-      lines_are = ap (λ rest. said.step step ∷ rest) more.lines_are;
-      bounds = (bounds, more.bounds);
-      readable = more.readable;
-      leads = (follows.word, follows.leads, follows.short, more.leads);
-      sign = more.sign;
-      claims = more.claims;
-    }
-Leads-Step replay (said.verdict verdict ∷ all) claim (next, bounds, follows, leads) =
-    let last = Leads-Witness replay verdict all claim
-    (subst (λ d. Leads d all claim) follows leads) in
-    record {
-      steps = [];
-      verdict = verdict;
-      witness = replay.present;
-      lines_are = ap (λ rest. said.verdict verdict ∷ rest) last.lines_are;
-      bounds = tt;
-      readable = last.readable;
-      leads = refl;
-      sign = last.sign;
-      claims = last.claims;
-    }
-Leads-Step replay (l ∷ all) claim (next, bounds, follows, leads) = absurd follows
-
--- and back
-IsSteps-Leads
-    : (replay : Replay) (steps : List StepLine) (verdict : Verdict) (witness : List Letter)
-    → AllByRecursion IsStepLine steps
-    → IsReadable witness
-    → IsSteps replay.present steps witness
-    → verdict_of (sign_of witness) ≡ Some verdict
-    → Leads (due.Step replay) (step_lines steps (tail_lines verdict witness))
-    (claim_from replay steps verdict witness)
-IsSteps-Leads replay [] verdict witness bounds readable leads sign = (
-  due.Witness replay verdict,
-  tt,
-  refl,
-  (
-    due.Finish replay verdict,
-    readable,
-    (leads, sign, refl),
-    (
-      due.Passed (claimed replay verdict),
-      tt,
-      refl,
-      ap (λ w. due.Passed (record (claimed replay verdict) { witness = w })) (sym leads),
-    ),
-  ),
-)
-IsSteps-Leads replay (step ∷ steps) verdict witness bounds readable (word, leads, short, more) sign = (
-  due.Step (at_word replay word),
-  bounds.0,
-  record { word = word; leads = leads; short = short; due = refl },
-  IsSteps-Leads (at_word replay word) steps verdict witness bounds.1 readable more sign,
-)
+use Rattle.trace_check.proofs.LeadsLaws.{counted, Leads-Step, IsSteps-Leads}
 
 -- ---- A whole file ----
 
@@ -199,7 +54,7 @@ record IsTraced (all : List Said) (claim : Claim) : Type 0 where
 Leads-Right
     : (u : List Letter) (all : List Said) (claim : Claim)
     → IsReadable u
-    → Leads (due.Right u) all claim
+    → Leads (due.right u) all claim
     → IsTraced (said.start ∷ said.left u ∷ all) claim
 Leads-Right u [] claim readable leads = absurd (cc)
 Leads-Right u (said.right v ∷ all) claim readable (next, bounds, (short, follows), leads) =
@@ -228,7 +83,7 @@ Leads-Right u (l ∷ all) claim readable (next, bounds, follows, leads) = absurd
 Leads-RightTerm
     : (t : Term) (all : List Said) (claim : Claim)
     → IsShortTerm t
-    → Leads (due.RightTerm (braid t)) all claim
+    → Leads (due.right_term (braid t)) all claim
     → IsTraced (said.start ∷ said.left_term t ∷ all) claim
 Leads-RightTerm t [] claim small leads = absurd (cc)
 Leads-RightTerm t (said.right_term u ∷ all) claim small (next, bounds, (few, short, follows), leads) =
@@ -257,7 +112,7 @@ Leads-RightTerm t (l ∷ all) claim small (next, bounds, follows, leads) = absur
 -- from the left line on
 Leads-Left
     : (all : List Said) (claim : Claim)
-    → Leads due.Left all claim
+    → Leads due.left all claim
     → IsTraced (said.start ∷ all) claim
 Leads-Left [] claim leads = absurd (cc)
 Leads-Left (said.left u ∷ all) claim (next, bounds, follows, leads) =
@@ -267,7 +122,7 @@ Leads-Left (said.left_term t ∷ all) claim (next, bounds, (short, follows), lea
 Leads-Left (l ∷ all) claim (next, bounds, follows, leads) = absurd follows
 
 -- from the first line on
-Leads-Start : (all : List Said) (claim : Claim) → Leads due.Start all claim → IsTraced all claim
+Leads-Start : (all : List Said) (claim : Claim) → Leads due.start all claim → IsTraced all claim
 Leads-Start [] claim leads = absurd (cc)
 Leads-Start (said.start ∷ all) claim (next, bounds, follows, leads) =
     Leads-Left all claim (subst (λ d. Leads d all claim) follows leads)
@@ -286,29 +141,29 @@ IsHeader-Leads
     : (h : Header) (all : List Said) (claim : Claim)
     → IsHeader h
     → length (quotient_of h) ≤ MAX_LETTERS
-    → Leads (due.Step (begun (left_word h) (right_word h))) all claim
-    → Leads due.Left (left_line h ∷ right_line h ∷ all) claim
+    → Leads (due.step (begun (left_word h) (right_word h))) all claim
+    → Leads due.left (left_line h ∷ right_line h ∷ all) claim
 IsHeader-Leads (words u v) all claim is short leads = (
-  due.Right u,
+  due.right u,
   is.0,
   refl,
-  (due.Step (begun u v), is.1, (short, refl), leads),
+  (due.step (begun u v), is.1, (short, refl), leads),
 )
 IsHeader-Leads (terms t u) all claim is short leads =
     let (first, second) = shorter_parts (braid t) (braid u) short in (
-      due.RightTerm (braid t),
+      due.right_term (braid t),
       is.0,
       (first, refl),
-      (due.Step (begun (braid t) (braid u)), is.1, (second, short, refl), leads),
+      (due.step (begun (braid t) (braid u)), is.1, (second, short, refl), leads),
     )
 
 -- from the first line on
 IsAccepted-Leads
     : (bytes : List ℕ) (t : Trace)
     → IsAccepted bytes t
-    → Leads due.Start (trace_lines t) (counted_claim t)
+    → Leads due.start (trace_lines t) (counted_claim t)
 IsAccepted-Leads bytes t is = (
-  due.Left,
+  due.left,
   tt,
   refl,
   IsHeader-Leads t.header (step_lines t.steps (tail_lines t.verdict t.witness)) (counted_claim t)
@@ -330,7 +185,7 @@ cut-lines (l ∷ all) are =
 
 -- lines that lead somewhere can be said
 Leads-IsLine
-    : (now : Due) (all : List Said) (claim : Claim)
+    : (now : State) (all : List Said) (claim : Claim)
     → Leads now all claim
     → AllByRecursion IsLine all
 Leads-IsLine now [] claim leads = tt
@@ -344,7 +199,7 @@ pub checked_of-accepted
     → (t : Trace) × IsAccepted bytes t × (claim ≡ counted_claim t)
 unfolding checked_of
 checked_of-accepted bytes claim is =
-    let walked = walk-Leads 1 due.Start (cut bytes).0 (cut bytes).1 claim is in
+    let walked = walk-Leads 1 due.start (cut bytes).0 (cut bytes).1 claim is in
     let traced = Leads-Start walked.all claim walked.leads in
     let text : joined (cut bytes) ≡ trace_text traced.trace
     = ap₂ (λ ls rest. flat_map line ls ++ rest) walked.texts walked.ended
@@ -370,9 +225,9 @@ accepted-checked_of bytes t is =
     let leads = IsAccepted-Leads bytes t is in
     let parts : cut bytes ≡ (map line_text (trace_lines t), [])
     = ap cut (is.text ∙ trace_text-lines t)
-    ∙ cut-lines (trace_lines t) (Leads-IsLine due.Start (trace_lines t) (counted_claim t) leads) in
-    ap (λ (r : List (List ℕ) × List ℕ). walk 1 due.Start r.0 r.1) parts
-    ∙ Leads-walk 1 due.Start (trace_lines t) (counted_claim t) leads
+    ∙ cut-lines (trace_lines t) (Leads-IsLine due.start (trace_lines t) (counted_claim t) leads) in
+    ap (λ (r : List (List ℕ) × List ℕ). walk 1 due.start r.0 r.1) parts
+    ∙ Leads-walk 1 due.start (trace_lines t) (counted_claim t) leads
 
 -- ---- The number of steps ----
 

@@ -16,8 +16,8 @@ use Rattle.trace_format.specs.declared.line.StepLine.TheVariants.{Handle}
 use Rattle.trace_format.specs.Verdicts.{verdict_of}
 use Rattle.trace_check.specs.Checking.{letter_eq, word_eq, verdict_eq, gives_verdict, is_handle_within, stepped_to, stepped, shown}
 use Rattle.trace_check.specs.declared.checked.Why.TheVariants.{Step, Long, Witness, Sign}
-use Rattle.trace_check.specs.declared.due.Due.TheVariants as due
-use Rattle.trace_check.specs.declared.replay.Replay.{Replay}
+use Rattle.trace_check.specs.States as due
+use Rattle.trace_check.specs.States.{Replay}
 
 -- ---- Tests ----
 
@@ -31,7 +31,8 @@ Decides-letter_eq x y = (
       ap₂ letter same_index same_sign,
   λ same.
       subst (λ (z : Letter). letter_eq x z ≡ true) same
-      (and_from (x.index == x.index) _ (eq-eqb x.index x.index refl) ((booleans_Decides x.negative x.negative).1 refl)),
+      (and_from (x.index == x.index) _ (eq-eqb x.index x.index refl)
+      ((booleans_Decides x.negative x.negative).1 refl)),
 )
 
 -- the test of two words
@@ -173,7 +174,7 @@ module _
         → t ≡ w
         → u ≡ v
         → verdict_of (sign_of t) ≡ Some verdict
-        → shown replay verdict w ≡ Ok (due.Finish replay verdict)
+        → shown replay verdict w ≡ Ok (due.finish replay verdict)
     shown-Ok t whole same gives =
         let gives : verdict_of (sign_of w) ≡ Some verdict
         = subst (λ z. verdict_of (sign_of z) ≡ Some verdict) whole gives in

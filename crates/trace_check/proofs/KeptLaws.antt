@@ -1,8 +1,8 @@
--- Laws of what is due after one line.
+-- What is due after a line that is kept.
 --
 -- A line is kept exactly where it is the text of what may be said there, and then what is due follows from
--- that: `Follows-kept` and `kept-Follows`.
-use Rattle.std.proofs.Common.{◌≡◌, ℕ, ◌≤◌, ◌||◌, Bool, true, false, cond, ltb, List, length, codes, Option, Some, Result, Ok, Err, refl, sym, ap, ◌∙◌}
+-- that: `kept-Follows`, and `Follows-kept` of `FollowsLaws`.
+use Rattle.std.proofs.Common.{◌≡◌, ℕ, ◌≤◌, ◌||◌, Bool, true, false, cond, ltb, List, length, codes, Some, Result, Ok, Err, refl, sym, ap, ◌∙◌}
 use Rattle.std.specs.Str.{bytes_eq}
 use Rattle.std.proofs.lemmas.Bool.{le-ltb, ltb-false}
 use Rattle.std.proofs.lemmas.Slice.Eq.{bytes_eq-Decides}
@@ -10,10 +10,9 @@ use Rattle.wb_base.specs.Streams.{one_more}
 use Rattle.braid_word.specs.Words.{Letter, quotient}
 use Rattle.braid_word.specs.Sign.{sign_of}
 use Rattle.braid_word.specs.declared.TheConstants.{MAX_LETTERS}
-use Rattle.braid_word.proofs.SpellingLemmas.{Ok-injective}
+use Rattle.wb_base.proofs.PartLemmas.{Ok-injective}
 use Rattle.trace_format.specs.declared.verdict.Verdict.{Verdict}
 use Rattle.term_eval.specs.Braids.{braid}
-use Rattle.trace_format.specs.declared.line.Kind.{Kind}
 use Rattle.trace_format.specs.declared.line.Kind.TheVariants as kinds
 use Rattle.trace_format.specs.declared.line.StepLine.{StepLine}
 use Rattle.trace_format.specs.Said.{Said}
@@ -21,18 +20,16 @@ use Rattle.trace_format.specs.Said as said
 use Rattle.trace_format.specs.declared.line.LineErr.{LineErr}
 use Rattle.trace_format.specs.Verdicts.{verdict_of}
 use Rattle.trace_format.specs.TraceLines.{kind_of, line_of, line_text, IsStepLine, IsLine}
-use Rattle.trace_format.proofs.LineLaws.{line_of-is, line_of-line_text, kind_of-line_text}
+use Rattle.trace_format.proofs.LineLaws.{line_of-is}
 use Rattle.trace_check.specs.Accepted.{IsStep}
 use Rattle.trace_check.specs.Checking.{word_eq, gives_verdict, is_kind, stepped, stepped_to, with_word, begun_with, claimed, moved, shown, kept_start, kept_left, kept_right, kept_right_term, kept_step, kept_witness, kept_finish, of_kind, kept_unless_long, kept_short, kept}
 use Rattle.trace_check.specs.declared.TheConstants.{MAX_LINE}
 use Rattle.trace_check.specs.declared.checked.Why.{Why}
-use Rattle.trace_check.specs.declared.checked.Why.TheVariants.{Header, Long, Sign, Witness}
-use Rattle.trace_check.specs.declared.replay.Replay.{Replay}
-use Rattle.trace_check.specs.declared.due.Due.{Due}
-use Rattle.trace_check.specs.declared.due.Due.TheVariants as due
+use Rattle.trace_check.specs.declared.checked.Why.TheVariants.{Long, Sign, Witness}
+use Rattle.trace_check.specs.States.{Replay, State}
+use Rattle.trace_check.specs.States as due
 use Rattle.trace_check.proofs.KeepLemmas.{Decides-word_eq, Decides-gives_verdict}
-use Rattle.trace_check.proofs.LineLengths.{length-line_text}
-use Rattle.trace_check.proofs.StepLaws.{stepped-IsStep, IsStep-stepped}
+use Rattle.trace_check.proofs.StepLaws.{stepped-IsStep}
 
 -- ---- What may follow ----
 
@@ -45,33 +42,33 @@ abbrev pub at_word : Replay → List Letter → Replay
 at_word replay w = record replay { present = w; steps = one_more replay.steps }
 
 -- A step may be said in a replay, and then this is due.
-pub record FollowsStep (replay : Replay) (step : StepLine) (next : Due) : Type 0 where
+pub record FollowsStep (replay : Replay) (step : StepLine) (next : State) : Type 0 where
   pub word : List Letter
   pub leads : IsStep replay.present step word
   pub short : length word ≤ MAX_LETTERS
-  pub due : next ≡ due.Step (at_word replay word)
+  pub due : next ≡ due.step (at_word replay word)
 
 -- A line may be said where `now` is due, and then `next` is due.
-abbrev pub Follows : Due → Said → Due → Type 0
-Follows due.Start said.start next = next ≡ due.Left
-Follows due.Left (said.left w) next = next ≡ due.Right w
-Follows due.Left (said.left_term t) next =
-    (length (braid t) ≤ MAX_LETTERS) × (next ≡ due.RightTerm (braid t))
-Follows (due.Right u) (said.right v) next =
-    (length (quotient u v) ≤ MAX_LETTERS) × (next ≡ due.Step (begun u v))
-Follows (due.RightTerm u) (said.right_term t) next =
+abbrev pub Follows : State → Said → State → Type 0
+Follows due.start said.start next = next ≡ due.left
+Follows due.left (said.left w) next = next ≡ due.right w
+Follows due.left (said.left_term t) next =
+    (length (braid t) ≤ MAX_LETTERS) × (next ≡ due.right_term (braid t))
+Follows (due.right u) (said.right v) next =
+    (length (quotient u v) ≤ MAX_LETTERS) × (next ≡ due.step (begun u v))
+Follows (due.right_term u) (said.right_term t) next =
     (length (braid t) ≤ MAX_LETTERS)
     × (length (quotient u (braid t)) ≤ MAX_LETTERS)
-    × (next ≡ due.Step (begun u (braid t)))
-Follows (due.Step replay) (said.step step) next = FollowsStep replay step next
-Follows (due.Step replay) (said.verdict verdict) next = next ≡ due.Witness replay verdict
-Follows (due.Witness replay verdict) (said.witness w) next =
-    (w ≡ replay.present) × (verdict_of (sign_of w) ≡ Some verdict) × (next ≡ due.Finish replay verdict)
-Follows (due.Finish replay verdict) said.finish next = next ≡ due.Passed (claimed replay verdict)
+    × (next ≡ due.step (begun u (braid t)))
+Follows (due.step replay) (said.step step) next = FollowsStep replay step next
+Follows (due.step replay) (said.verdict verdict) next = next ≡ due.witness replay verdict
+Follows (due.witness replay verdict) (said.witness w) next =
+    (w ≡ replay.present) × (verdict_of (sign_of w) ≡ Some verdict) × (next ≡ due.finish replay verdict)
+Follows (due.finish replay verdict) said.finish next = next ≡ due.passed (claimed replay verdict)
 Follows now l next = ⊥
 
 -- A line says something that may follow.
-pub record IsKept (now : Due) (line : List ℕ) (next : Due) : Type 0 where
+pub record IsKept (now : State) (line : List ℕ) (next : State) : Type 0 where
   pub says : Said
   pub text : line ≡ line_text says
   pub bounds : IsLine says
@@ -81,34 +78,34 @@ pub record IsKept (now : Due) (line : List ℕ) (next : Due) : Type 0 where
 
 -- where no line is too long it is as where this one isn't
 kept_unless_long-false
-    : (now : Due) (line : List ℕ)
+    : (now : State) (line : List ℕ)
     → kept_unless_long false now line ≡ kept_short now line
-kept_unless_long-false due.Start line = refl
-kept_unless_long-false due.Left line = refl
-kept_unless_long-false (due.Right left) line = refl
-kept_unless_long-false (due.RightTerm left) line = refl
-kept_unless_long-false (due.Step replay) line = refl
-kept_unless_long-false (due.Witness replay verdict) line = refl
-kept_unless_long-false (due.Finish replay verdict) line = refl
-kept_unless_long-false (due.Passed claim) line = refl
+kept_unless_long-false due.start line = refl
+kept_unless_long-false due.left line = refl
+kept_unless_long-false (due.right left) line = refl
+kept_unless_long-false (due.right_term left) line = refl
+kept_unless_long-false (due.step replay) line = refl
+kept_unless_long-false (due.witness replay verdict) line = refl
+kept_unless_long-false (due.finish replay verdict) line = refl
+kept_unless_long-false (due.passed claim) line = refl
 
 -- a line that is too long isn't kept
 kept_unless_long-true
-    : (now : Due) (line : List ℕ) (next : Due)
+    : (now : State) (line : List ℕ) (next : State)
     → kept_unless_long true now line ≡ Ok next
     → ⊥
-kept_unless_long-true due.Start line next is = cc
-kept_unless_long-true due.Left line next is = cc
-kept_unless_long-true (due.Right left) line next is = cc
-kept_unless_long-true (due.RightTerm left) line next is = cc
-kept_unless_long-true (due.Step replay) line next is = cc
-kept_unless_long-true (due.Witness replay verdict) line next is = cc
-kept_unless_long-true (due.Finish replay verdict) line next is = cc
-kept_unless_long-true (due.Passed claim) line next is = cc
+kept_unless_long-true due.start line next is = cc
+kept_unless_long-true due.left line next is = cc
+kept_unless_long-true (due.right left) line next is = cc
+kept_unless_long-true (due.right_term left) line next is = cc
+kept_unless_long-true (due.step replay) line next is = cc
+kept_unless_long-true (due.witness replay verdict) line next is = cc
+kept_unless_long-true (due.finish replay verdict) line next is = cc
+kept_unless_long-true (due.passed claim) line next is = cc
 
 -- a line that isn't too long
-kept-short
-    : (now : Due) (line : List ℕ)
+pub kept-short
+    : (now : State) (line : List ℕ)
     → length line ≤ MAX_LINE
     → kept now line ≡ kept_short now line
 unfolding kept
@@ -118,7 +115,7 @@ kept-short now line short =
 
 -- a line that is kept isn't too long
 kept-Ok
-    : (now : Due) (line : List ℕ) (next : Due)
+    : (now : State) (line : List ℕ) (next : State)
     → kept now line ≡ Ok next
     → kept_short now line ≡ Ok next
 unfolding kept
@@ -132,7 +129,7 @@ kept-Ok now line next is = go (ltb MAX_LINE (length line)) is
 
 -- what is read of a line that may stand there
 said-kept
-    : (now : Due) (line : List ℕ) (l : Said) (next : Due)
+    : (now : State) (line : List ℕ) (l : Said) (next : State)
     → line_of line ≡ Ok l
     → Follows now l next
     → IsKept now line next
@@ -142,7 +139,7 @@ said-kept now line l next read follows =
 
 -- a line of the kind that is due
 of_kind-Ok
-    : (right : Bool) (why : Why) (kept : Result Due Why) (next : Due)
+    : (right : Bool) (why : Why) (kept : Result State Why) (next : State)
     → of_kind right why kept ≡ Ok next
     → kept ≡ Ok next
 of_kind-Ok true why kept next is = is
@@ -150,7 +147,7 @@ of_kind-Ok false why kept next is = absurd (cc)
 
 -- a line with no reading of its own, by its text
 text-kept
-    : (now : Due) (line : List ℕ) (l : Said) (next : Due)
+    : (now : State) (line : List ℕ) (l : Said) (next : State)
     → bytes_eq line (line_text l) ≡ true
     → IsLine l
     → Follows now l next
@@ -164,17 +161,17 @@ text-kept now line l next test bounds follows = record {
 
 -- the start
 kept_start-Follows
-    : (line : List ℕ) (next : Due) (test : Bool)
+    : (line : List ℕ) (next : State) (test : Bool)
     → bytes_eq line (codes "braid-trace 1") ≡ test
     → kept_start test ≡ Ok next
-    → IsKept due.Start line next
+    → IsKept due.start line next
 kept_start-Follows line next true test is =
-    text-kept due.Start line said.start next test tt (sym (Ok-injective _ _ is))
+    text-kept due.start line said.start next test tt (sym (Ok-injective _ _ is))
 kept_start-Follows line next false test is = absurd (cc)
 
 -- what is due with a word that isn't too long
 with_word-Ok
-    : (w : List Letter) (follow : List Letter → Result Due Why) (next : Due)
+    : (w : List Letter) (follow : List Letter → Result State Why) (next : State)
     → with_word (stepped_to w) follow ≡ Ok next
     → (length w ≤ MAX_LETTERS) × (follow w ≡ Ok next)
 with_word-Ok w follow next is = go (ltb MAX_LETTERS (length w)) refl is
@@ -189,15 +186,15 @@ with_word-Ok w follow next is = go (ltb MAX_LETTERS (length w)) refl is
 
 -- the left word, or the left term
 kept_left-Follows
-    : (line : List ℕ) (next : Due) (read : Result Said LineErr)
+    : (line : List ℕ) (next : State) (read : Result Said LineErr)
     → line_of line ≡ read
     → kept_left read ≡ Ok next
-    → IsKept due.Left line next
+    → IsKept due.left line next
 kept_left-Follows line next (Ok (said.left w)) read is =
-    said-kept due.Left line (said.left w) next read (sym (Ok-injective _ _ is))
+    said-kept due.left line (said.left w) next read (sym (Ok-injective _ _ is))
 kept_left-Follows line next (Ok (said.left_term t)) read is =
-    let (short, follows) = with_word-Ok (braid t) (λ w. Ok (due.RightTerm w)) next is in
-    said-kept due.Left line (said.left_term t) next read (short, sym (Ok-injective _ _ follows))
+    let (short, follows) = with_word-Ok (braid t) (λ w. Ok (due.right_term w)) next is in
+    said-kept due.left line (said.left_term t) next read (short, sym (Ok-injective _ _ follows))
 kept_left-Follows line next (Ok said.start) read is = absurd (cc)
 kept_left-Follows line next (Ok (said.right_term t)) read is = absurd (cc)
 kept_left-Follows line next (Ok (said.right w)) read is = absurd (cc)
@@ -209,26 +206,26 @@ kept_left-Follows line next (Err e) read is = absurd (cc)
 
 -- the right word
 begun_with-Ok
-    : (u v : List Letter) (next : Due)
+    : (u v : List Letter) (next : State)
     → begun_with u v ≡ Ok next
-    → (length (quotient u v) ≤ MAX_LETTERS) × (next ≡ due.Step (begun u v))
+    → (length (quotient u v) ≤ MAX_LETTERS) × (next ≡ due.step (begun u v))
 begun_with-Ok u v next is = go (ltb MAX_LETTERS (length (quotient u v))) refl is
   where
     go
         : (long : Bool)
         → ltb MAX_LETTERS (length (quotient u v)) ≡ long
-        → cond long (Err Long) (Ok (due.Step (begun u v))) ≡ Ok next
-        → (length (quotient u v) ≤ MAX_LETTERS) × (next ≡ due.Step (begun u v))
+        → cond long (Err Long) (Ok (due.step (begun u v))) ≡ Ok next
+        → (length (quotient u v) ≤ MAX_LETTERS) × (next ≡ due.step (begun u v))
     go true test is = absurd (cc)
     go false test is = (ltb-false _ _ test, sym (Ok-injective _ _ is))
 
 kept_right-Follows
-    : (u : List Letter) (line : List ℕ) (next : Due) (read : Result Said LineErr)
+    : (u : List Letter) (line : List ℕ) (next : State) (read : Result Said LineErr)
     → line_of line ≡ read
     → kept_right u read ≡ Ok next
-    → IsKept (due.Right u) line next
+    → IsKept (due.right u) line next
 kept_right-Follows u line next (Ok (said.right w)) read is =
-    said-kept (due.Right u) line (said.right w) next read (begun_with-Ok u w next is)
+    said-kept (due.right u) line (said.right w) next read (begun_with-Ok u w next is)
 kept_right-Follows u line next (Ok said.start) read is = absurd (cc)
 kept_right-Follows u line next (Ok (said.left_term t)) read is = absurd (cc)
 kept_right-Follows u line next (Ok (said.right_term t)) read is = absurd (cc)
@@ -241,14 +238,14 @@ kept_right-Follows u line next (Err e) read is = absurd (cc)
 
 -- the right term
 kept_right_term-Follows
-    : (u : List Letter) (line : List ℕ) (next : Due) (read : Result Said LineErr)
+    : (u : List Letter) (line : List ℕ) (next : State) (read : Result Said LineErr)
     → line_of line ≡ read
     → kept_right_term u read ≡ Ok next
-    → IsKept (due.RightTerm u) line next
+    → IsKept (due.right_term u) line next
 kept_right_term-Follows u line next (Ok (said.right_term t)) read is =
     let (short, begins) = with_word-Ok (braid t) (begun_with u) next is in
     let (within, follows) = begun_with-Ok u (braid t) next begins in
-    said-kept (due.RightTerm u) line (said.right_term t) next read (short, within, follows)
+    said-kept (due.right_term u) line (said.right_term t) next read (short, within, follows)
 kept_right_term-Follows u line next (Ok said.start) read is = absurd (cc)
 kept_right_term-Follows u line next (Ok (said.left w)) read is = absurd (cc)
 kept_right_term-Follows u line next (Ok (said.right w)) read is = absurd (cc)
@@ -261,7 +258,7 @@ kept_right_term-Follows u line next (Err e) read is = absurd (cc)
 
 -- a step
 moved-Ok
-    : (replay : Replay) (step : StepLine) (next : Due) (to : Result (List Letter) Why)
+    : (replay : Replay) (step : StepLine) (next : State) (to : Result (List Letter) Why)
     → IsStepLine step
     → stepped replay.present step ≡ to
     → moved replay to ≡ Ok next
@@ -273,16 +270,16 @@ moved-Ok replay step next (Err why) bounds leads is = absurd (cc)
 
 -- a step or the verdict
 kept_step-Follows
-    : (replay : Replay) (line : List ℕ) (next : Due) (read : Result Said LineErr)
+    : (replay : Replay) (line : List ℕ) (next : State) (read : Result Said LineErr)
     → line_of line ≡ read
     → kept_step replay read ≡ Ok next
-    → IsKept (due.Step replay) line next
+    → IsKept (due.step replay) line next
 kept_step-Follows replay line next (Ok (said.step step)) read is =
     let bounds = (line_of-is line (said.step step) read).bounds in
-    said-kept (due.Step replay) line (said.step step) next read
+    said-kept (due.step replay) line (said.step step) next read
     (moved-Ok replay step next _ bounds refl is)
 kept_step-Follows replay line next (Ok (said.verdict v)) read is =
-    said-kept (due.Step replay) line (said.verdict v) next read (sym (Ok-injective _ _ is))
+    said-kept (due.step replay) line (said.verdict v) next read (sym (Ok-injective _ _ is))
 kept_step-Follows replay line next (Ok said.start) read is = absurd (cc)
 kept_step-Follows replay line next (Ok (said.left_term t)) read is = absurd (cc)
 kept_step-Follows replay line next (Ok (said.right_term t)) read is = absurd (cc)
@@ -294,31 +291,32 @@ kept_step-Follows replay line next (Err e) read is = absurd (cc)
 
 -- the witness
 shown-Follows
-    : (replay : Replay) (verdict : Verdict) (w : List Letter) (next : Due)
+    : (replay : Replay) (verdict : Verdict) (w : List Letter) (next : State)
     → shown replay verdict w ≡ Ok next
-    → Follows (due.Witness replay verdict) (said.witness w) next
+    → Follows (due.witness replay verdict) (said.witness w) next
 shown-Follows replay verdict w next is =
     let same_word = Decides-word_eq w replay.present in
     let same_verdict = Decides-gives_verdict (verdict_of (sign_of w)) verdict in
-    go (word_eq w replay.present) (gives_verdict (verdict_of (sign_of w)) verdict) same_word.0 same_verdict.0 is
+    go (word_eq w replay.present) (gives_verdict (verdict_of (sign_of w)) verdict) same_word.0 same_verdict.0
+    is
   where
     go
         : (same goes : Bool)
         → (same ≡ true → w ≡ replay.present)
         → (goes ≡ true → verdict_of (sign_of w) ≡ Some verdict)
-        → cond same (cond goes (Ok (due.Finish replay verdict)) (Err Sign)) (Err Witness) ≡ Ok next
-        → Follows (due.Witness replay verdict) (said.witness w) next
+        → cond same (cond goes (Ok (due.finish replay verdict)) (Err Sign)) (Err Witness) ≡ Ok next
+        → Follows (due.witness replay verdict) (said.witness w) next
     go true true one two is = (one refl, two refl, sym (Ok-injective _ _ is))
     go true false one two is = absurd (cc)
     go false goes one two is = absurd (cc)
 
 kept_witness-Follows
-    : (replay : Replay) (verdict : Verdict) (line : List ℕ) (next : Due) (read : Result Said LineErr)
+    : (replay : Replay) (verdict : Verdict) (line : List ℕ) (next : State) (read : Result Said LineErr)
     → line_of line ≡ read
     → kept_witness replay verdict read ≡ Ok next
-    → IsKept (due.Witness replay verdict) line next
+    → IsKept (due.witness replay verdict) line next
 kept_witness-Follows replay verdict line next (Ok (said.witness w)) read is =
-    said-kept (due.Witness replay verdict) line (said.witness w) next read
+    said-kept (due.witness replay verdict) line (said.witness w) next read
     (shown-Follows replay verdict w next is)
 kept_witness-Follows replay verdict line next (Ok said.start) read is = absurd (cc)
 kept_witness-Follows replay verdict line next (Ok (said.left_term t)) read is = absurd (cc)
@@ -332,102 +330,38 @@ kept_witness-Follows replay verdict line next (Err e) read is = absurd (cc)
 
 -- the end
 kept_finish-Follows
-    : (replay : Replay) (verdict : Verdict) (line : List ℕ) (next : Due) (test : Bool)
+    : (replay : Replay) (verdict : Verdict) (line : List ℕ) (next : State) (test : Bool)
     → bytes_eq line (codes "end") ≡ test
     → kept_finish replay verdict test ≡ Ok next
-    → IsKept (due.Finish replay verdict) line next
+    → IsKept (due.finish replay verdict) line next
 kept_finish-Follows replay verdict line next true test is =
-    text-kept (due.Finish replay verdict) line said.finish next test tt (sym (Ok-injective _ _ is))
+    text-kept (due.finish replay verdict) line said.finish next test tt (sym (Ok-injective _ _ is))
 kept_finish-Follows replay verdict line next false test is = absurd (cc)
 
 kept_short-Follows
-    : (now : Due) (line : List ℕ) (next : Due)
+    : (now : State) (line : List ℕ) (next : State)
     → kept_short now line ≡ Ok next
     → IsKept now line next
-kept_short-Follows due.Start line next is = kept_start-Follows line next _ refl is
-kept_short-Follows due.Left line next is =
+kept_short-Follows due.start line next is = kept_start-Follows line next _ refl is
+kept_short-Follows due.left line next is =
     kept_left-Follows line next _ refl
     (of_kind-Ok (is_kind (kind_of line) kinds.Left || is_kind (kind_of line) kinds.LeftTerm) _ _ next is)
-kept_short-Follows (due.Right u) line next is =
+kept_short-Follows (due.right u) line next is =
     kept_right-Follows u line next _ refl (of_kind-Ok (is_kind (kind_of line) kinds.Right) _ _ next is)
-kept_short-Follows (due.RightTerm u) line next is =
+kept_short-Follows (due.right_term u) line next is =
     kept_right_term-Follows u line next _ refl
     (of_kind-Ok (is_kind (kind_of line) kinds.RightTerm) _ _ next is)
-kept_short-Follows (due.Step replay) line next is = kept_step-Follows replay line next _ refl is
-kept_short-Follows (due.Witness replay verdict) line next is =
+kept_short-Follows (due.step replay) line next is = kept_step-Follows replay line next _ refl is
+kept_short-Follows (due.witness replay verdict) line next is =
     kept_witness-Follows replay verdict line next _ refl
     (of_kind-Ok (is_kind (kind_of line) kinds.Witness) _ _ next is)
-kept_short-Follows (due.Finish replay verdict) line next is =
+kept_short-Follows (due.finish replay verdict) line next is =
     kept_finish-Follows replay verdict line next _ refl is
-kept_short-Follows (due.Passed claim) line next is = absurd (cc)
+kept_short-Follows (due.passed claim) line next is = absurd (cc)
 
 -- a line that is kept says something that may follow
 pub kept-Follows
-    : (now : Due) (line : List ℕ) (next : Due)
+    : (now : State) (line : List ℕ) (next : State)
     → kept now line ≡ Ok next
     → IsKept now line next
 kept-Follows now line next is = kept_short-Follows now line next (kept-Ok now line next is)
-
--- ---- What may follow is kept ----
-
--- a line is looked at where its kind is due
-of_kind-due
-    : (right : Bool) (why : Why) (kept : Result Due Why)
-    → right ≡ true
-    → of_kind right why kept ≡ kept
-of_kind-due true why kept is = refl
-of_kind-due false why kept is = absurd (cc)
-
--- Whether a line is of a kind that is due as the left one.
-abbrev is_left : Option Kind → Bool
-is_left kind = is_kind kind kinds.Left || is_kind kind kinds.LeftTerm
-
-kept_short-line_text
-    : (now : Due) (l : Said) (next : Due)
-    → IsLine l
-    → Follows now l next
-    → kept_short now (line_text l) ≡ Ok next
-kept_short-line_text due.Start said.start next bounds follows = ap (λ d. Ok d) (sym follows)
-kept_short-line_text due.Left (said.left w) next bounds follows =
-    of_kind-due (is_left (kind_of (line_text (said.left w)))) Header _ (ap is_left (kind_of-line_text (said.left w)))
-    ∙ ap kept_left (line_of-line_text (said.left w) bounds) ∙ ap (λ d. Ok d) (sym follows)
-kept_short-line_text due.Left (said.left_term t) next bounds (short, follows) =
-    of_kind-due (is_left (kind_of (line_text (said.left_term t)))) Header
-    (kept_left (line_of (line_text (said.left_term t)))) (ap is_left (kind_of-line_text (said.left_term t)))
-    ∙ ap kept_left (line_of-line_text (said.left_term t) bounds)
-    ∙ rw (le-ltb _ _ short) (ap (λ d. Ok d) (sym follows))
-kept_short-line_text (due.Right u) (said.right w) next bounds (short, follows) =
-    of_kind-due _ _ _ (ap (λ k. is_kind k kinds.Right) (kind_of-line_text (said.right w)))
-    ∙ ap (kept_right u) (line_of-line_text (said.right w) bounds)
-    ∙ rw (le-ltb _ _ short) (ap (λ d. Ok d) (sym follows))
-kept_short-line_text (due.RightTerm u) (said.right_term t) next bounds (short, within, follows) =
-    of_kind-due _ Header (kept_right_term u (line_of (line_text (said.right_term t))))
-    (ap (λ k. is_kind k kinds.RightTerm) (kind_of-line_text (said.right_term t)))
-    ∙ ap (kept_right_term u) (line_of-line_text (said.right_term t) bounds)
-    ∙ rw (le-ltb _ _ short, le-ltb _ _ within) (ap (λ d. Ok d) (sym follows))
-kept_short-line_text (due.Step replay) (said.step step) next bounds follows =
-    let leads = IsStep-stepped replay.present step follows.word follows.leads follows.short in
-    ap (kept_step replay) (line_of-line_text (said.step step) bounds)
-    ∙ ap (moved replay) leads ∙ ap (λ d. Ok d) (sym follows.due)
-kept_short-line_text (due.Step replay) (said.verdict v) next bounds follows =
-    ap (kept_step replay) (line_of-line_text (said.verdict v) bounds)
-    ∙ ap (λ d. Ok d) (sym follows)
-kept_short-line_text (due.Witness replay verdict) (said.witness w) next bounds (same, sign, follows) =
-    let word = (Decides-word_eq w replay.present).1 same in
-    let goes = (Decides-gives_verdict (verdict_of (sign_of w)) verdict).1 sign in
-    of_kind-due _ _ _ (ap (λ k. is_kind k kinds.Witness) (kind_of-line_text (said.witness w)))
-    ∙ ap (kept_witness replay verdict) (line_of-line_text (said.witness w) bounds)
-    ∙ rw (word, goes) (ap (λ d. Ok d) (sym follows))
-kept_short-line_text (due.Finish replay verdict) said.finish next bounds follows =
-    ap (λ d. Ok d) (sym follows)
-kept_short-line_text now l next bounds follows = absurd follows
-
--- what may follow is kept
-pub Follows-kept
-    : (now : Due) (l : Said) (next : Due)
-    → IsLine l
-    → Follows now l next
-    → kept now (line_text l) ≡ Ok next
-Follows-kept now l next bounds follows =
-    kept-short now (line_text l) (length-line_text l bounds)
-    ∙ kept_short-line_text now l next bounds follows

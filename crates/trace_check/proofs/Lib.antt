@@ -3,7 +3,9 @@ pub mod KeepLemmas
 pub mod LineLengths
 pub mod StepLaws
 pub mod KeptLaws
+pub mod FollowsLaws
 pub mod WalkLaws
+pub mod LeadsLaws
 pub mod CheckingLaws
 pub mod VerdictLemmas
 pub mod AcceptedLemmas

@@ -13,17 +13,17 @@ use Rattle.trace_check.specs.FirstRefusal.{AreKept, IsRefused, IsFirstRefusal, H
 use Rattle.trace_check.specs.declared.checked.CheckErr.{CheckErr}
 use Rattle.trace_check.specs.declared.checked.CheckErr.TheVariants.{Refused, Memory}
 use Rattle.trace_check.specs.declared.checked.Why.{Why}
-use Rattle.trace_check.specs.declared.due.Due.{Due}
-use Rattle.trace_check.specs.declared.due.Due.TheVariants as due
+use Rattle.trace_check.specs.States.{State}
+use Rattle.trace_check.specs.States as due
 use Rattle.trace_check.proofs.CheckingLaws.{checked_of-accepted, accepted-checked_of}
 
 -- ---- Many lines ----
 
 -- The first refusal of lines that count from k, and of what stands behind them.
-record IsStopped (k : ℕ) (now : Due) (ls : List (List ℕ)) (rest : List ℕ) (m : ℕ) (why : Why) : Type 0 where
+record IsStopped (k : ℕ) (now : State) (ls : List (List ℕ)) (rest : List ℕ) (m : ℕ) (why : Why) : Type 0 where
   before : List (List ℕ)
   others : List (List ℕ)
-  last : Due
+  last : State
   lines : ls ≡ before ++ others
   number : m ≡ min (k + length before) (2 ^ 64 - 1)
   kept : AreKept now before last
@@ -45,7 +45,7 @@ AreOne-Err k m w why is =
 
 -- the first line of all that is refused
 IsStopped-here
-    : (k : ℕ) (now : Due) (ls : List (List ℕ)) (rest : List ℕ) (m : ℕ) (w why : Why)
+    : (k : ℕ) (now : State) (ls : List (List ℕ)) (rest : List ℕ) (m : ℕ) (w why : Why)
     → k ≤ 2 ^ 64 - 1
     → IsRefused now ls rest w
     → AreOne k m w why
@@ -71,7 +71,7 @@ at_line-Err k m why (Err w) is =
 
 -- lines that are refused have a first refusal
 walk-IsStopped
-    : (k : ℕ) (now : Due) (ls : List (List ℕ)) (rest : List ℕ) (m : ℕ) (why : Why)
+    : (k : ℕ) (now : State) (ls : List (List ℕ)) (rest : List ℕ) (m : ℕ) (why : Why)
     → k ≤ 2 ^ 64 - 1
     → walk k now ls rest ≡ Err (m, why)
     → IsStopped k now ls rest m why
@@ -83,10 +83,11 @@ walk-IsStopped k now (text ∷ ls) rest m why low is =
     (λ next is. walk-IsStopped (one_more k) next ls rest m why (omega arith) is)
   where
     go
-        : (after : Result Due Why)
+        : (after : Result State Why)
         → kept now text ≡ after
         → walk_on k after (λ next. walk (one_more k) next ls rest) ≡ Err (m, why)
-        → ((next : Due) → walk (one_more k) next ls rest ≡ Err (m, why) → IsStopped (one_more k) next ls rest m why)
+        → ((next : State) → walk (one_more k) next ls rest ≡ Err (m, why)
+        → IsStopped (one_more k) next ls rest m why)
         → IsStopped k now (text ∷ ls) rest m why
     go (Ok next) after is others =
         let more = others next is in
@@ -104,7 +105,7 @@ walk-IsStopped k now (text ∷ ls) rest m why low is =
 
 -- a refusal of the first line is one
 IsRefused-walk
-    : (k : ℕ) (now : Due) (ls : List (List ℕ)) (rest : List ℕ) (why : Why)
+    : (k : ℕ) (now : State) (ls : List (List ℕ)) (rest : List ℕ) (why : Why)
     → IsRefused now ls rest why
     → walk k now ls rest ≡ Err (k, why)
 IsRefused-walk k now [] rest why refused = ap (at_line k) refused
@@ -113,7 +114,7 @@ IsRefused-walk k now (text ∷ ls) rest why refused =
 
 -- lines that have a first refusal are refused by it
 AreKept-walk
-    : (k : ℕ) (now : Due) (before others : List (List ℕ)) (rest : List ℕ) (last : Due) (m : ℕ) (why : Why)
+    : (k : ℕ) (now : State) (before others : List (List ℕ)) (rest : List ℕ) (last : State) (m : ℕ) (why : Why)
     → k ≤ 2 ^ 64 - 1
     → m ≡ min (k + length before) (2 ^ 64 - 1)
     → AreKept now before last
@@ -136,7 +137,7 @@ pub checked_of-IsFirstRefusal
     → IsFirstRefusal bytes k why
 unfolding checked_of
 checked_of-IsFirstRefusal bytes k why is =
-    let stopped = walk-IsStopped 1 due.Start (cut bytes).0 (cut bytes).1 k why (omega arith) is in
+    let stopped = walk-IsStopped 1 due.start (cut bytes).0 (cut bytes).1 k why (omega arith) is in
     record {
       before = stopped.before;
       others = stopped.others;
@@ -154,8 +155,8 @@ pub IsFirstRefusal-checked_of
     → checked_of bytes ≡ Err (k, why)
 unfolding checked_of
 IsFirstRefusal-checked_of bytes k why first =
-    ap (λ ls. walk 1 due.Start ls (cut bytes).1) first.lines
-    ∙ AreKept-walk 1 due.Start first.before first.others (cut bytes).1 first.last k why
+    ap (λ ls. walk 1 due.start ls (cut bytes).1) first.lines
+    ∙ AreKept-walk 1 due.start first.before first.others (cut bytes).1 first.last k why
     (omega arith) (omega (arith, first.number)) first.kept first.refused
 
 -- a file has one first refusal at most

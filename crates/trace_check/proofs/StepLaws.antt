@@ -1,6 +1,6 @@
 -- Laws of steps: one is made exactly where it applies, and where its word isn't too long
 -- (`stepped-IsStep`, `IsStep-stepped`).
-use Rattle.std.proofs.Common.{◌≡◌, ℕ, suc, ◌+◌, ◌-◌, ◌≤◌, inl, inr, ◌&&◌, ◌==◌, Bool, true, false, not, cond, ltb, List, [], ◌∷◌, ◌++◌, length, length-append, take, drop, Result, Ok, Err, refl, sym, ap, ap₂, ◌∙◌, subst, arith}
+use Rattle.std.proofs.Common.{◌≡◌, ℕ, suc, ◌+◌, ◌-◌, ◌≤◌, inl, inr, ◌&&◌, ◌==◌, Bool, true, false, not, cond, ltb, List, [], ◌∷◌, ◌++◌, length, length-append, take, drop, Ok, Err, refl, sym, ap, ap₂, ◌∙◌, subst, arith}
 use Rattle.std.specs.Bool.{beq}
 use Rattle.std.specs.Cmp.{booleans_Decides}
 use Rattle.std.proofs.lemmas.Bool.{le-ltb, lt-ltb, ltb-true, ltb-false, eq-eqb, eqb-true, and_parts, and_from, or_cases, or_left, or_right}
@@ -8,7 +8,7 @@ use Rattle.std.proofs.lemmas.List.{take-append-drop, length-take, length-drop}
 use Rattle.std.proofs.Math.Seq.{take-append_seam, drop-append_seam}
 use Rattle.braid_word.specs.Words.{Letter, letter, opposite}
 use Rattle.braid_word.specs.declared.TheConstants.{MAX_LETTERS}
-use Rattle.braid_word.proofs.SpellingLemmas.{Ok-cond, Ok-injective}
+use Rattle.wb_base.proofs.PartLemmas.{Ok-cond, Ok-injective, Ok-cond_not}
 use Rattle.braid_word.proofs.CommutingLemmas.{AreFar, AreNear}
 use Rattle.handle_find.specs.Handles.{reduct}
 use Rattle.trace_format.specs.declared.line.StepLine.{StepLine}
@@ -57,7 +57,8 @@ record AreBraided (x y z : Letter) : Type 0 where
 -- letters that pass the test are
 are_braided-true : (x y z : Letter) → are_braided x y z ≡ true → AreBraided x y z
 are_braided-true x y z pass =
-    let (signs, near) = and_parts ((z.index == x.index) && have_one_sign x y && have_one_sign x z) (are_near x y) pass in
+    let (signs, near) =
+    and_parts ((z.index == x.index) && have_one_sign x y && have_one_sign x z) (are_near x y) pass in
     let (firsts, last) = and_parts ((z.index == x.index) && have_one_sign x y) (have_one_sign x z) signs in
     let (index, next) = and_parts (z.index == x.index) (have_one_sign x y) firsts in
     let one : y.negative ≡ x.negative = (booleans_Decides y.negative x.negative).0 next in
@@ -258,14 +259,6 @@ deleted-is w p (x ∷ (y ∷ back)) v low cut is =
       ),
       short,
     )
-
--- what is answered where a test that refuses fails
-Ok-cond_not
-    : {A E : Type 0} (b : Bool) (e : E) (r : Result A E) (y : A)
-    → cond b (Err e) r ≡ Ok y
-    → (b ≡ false) × (r ≡ Ok y)
-Ok-cond_not true e r y is = absurd (cc)
-Ok-cond_not false e r y is = (refl, is)
 
 -- a step that is made leads to its word
 pub stepped-IsStep

@@ -1,7 +1,7 @@
 -- Laws of the terms of a trace file.
 --
--- A new graph has room for such a term (`refused-Memory`), which it then stands for (`number-as_term`); and its
--- braid word isn't come to where it is too long (`stepped_to-long`).
+-- A new graph has room for such a term (`refused-Memory`), which it then stands for (`number-as_term`); and
+-- its braid word isn't come to where it is too long (`stepped_to-long`).
 use Rattle.std.proofs.Common.{◌≡◌, ℕ, ◌<◌, List, [], ◌∷◌, length, None, Err, refl, sym, ap, ◌∙◌, subst, arith}
 use Rattle.std.proofs.lemmas.Bool.{lt-ltb}
 use Rattle.braid_word.specs.declared.TheConstants.{MAX_LETTERS}
@@ -23,14 +23,21 @@ use Rattle.trace_check.specs.declared.checked.Why.TheVariants.{Long}
 -- ---- The graph of a term ----
 
 -- a term without names has none that isn't known
-pub first_unknown-nameless : (names : List (List ℕ)) (w : Written) → HasNoName w → first_unknown names w ≡ None
+pub first_unknown-nameless
+    : (names : List (List ℕ)) (w : Written)
+    → HasNoName w
+    → first_unknown names w ≡ None
 first_unknown-nameless names leaf nameless = refl
 first_unknown-nameless names (named name place) nameless = absurd nameless
 first_unknown-nameless names (times a b) nameless =
     rw (first_unknown-nameless names a nameless.0, first_unknown-nameless names b nameless.1) refl
 
 -- a granted request is refused for want of memory alone
-refused-granted : (asked : Asked) (made : List Term) (e : GraphErr) → asked ≡ answered made → IsRefusal asked e → e ≡ Memory
+refused-granted
+    : (asked : Asked) (made : List Term) (e : GraphErr)
+    → asked ≡ answered made
+    → IsRefusal asked e
+    → e ≡ Memory
 refused-granted asked made TooDeep granted refused = absurd (let both = sym granted ∙ refused in cc)
 refused-granted asked made Full granted refused = absurd (let both = sym granted ∙ refused in cc)
 refused-granted asked made Memory granted refused = refl

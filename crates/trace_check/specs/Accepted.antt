@@ -102,8 +102,8 @@ IsStepOn n step = Unit {0}
 
 -- ---- Acceptance ----
 
--- The bytes are the trace's, what it has can be read, its steps lead from the quotient of its two words, or of
--- the braids of its two terms, to its witness, and that is sigma-positive for less, empty for equal,
+-- The bytes are the trace's, what it has can be read, its steps lead from the quotient of its two words, or
+-- of the braids of its two terms, to its witness, and that is sigma-positive for less, empty for equal,
 -- sigma-negative for greater.
 pub record IsAccepted (bytes : List ℕ) (t : Trace) : Type 0 where
   pub text : bytes ≡ trace_text t
@@ -122,7 +122,11 @@ pub record IsValid (t : Trace) : Type 0 where
   pub shown : Shows t.verdict t.witness
   pub holds : Holds t.verdict (left_word t.header) (right_word t.header)
   pub only : (d : Verdict) → Holds d (left_word t.header) (right_word t.header) → d ≡ t.verdict
-  pub equal : (n : ℕ) → IsOn n (left_word t.header) → IsOn n (right_word t.header) → AllByRecursion (IsStepOn n) t.steps
+  pub equal
+      : (n : ℕ)
+      → IsOn n (left_word t.header)
+      → IsOn n (right_word t.header)
+      → AllByRecursion (IsStepOn n) t.steps
       → (t.verdict ≡ Equal) ↔ EquivalentOn n (left_word t.header) (right_word t.header)
 
 -- ---- Claims ----

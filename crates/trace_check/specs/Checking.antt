@@ -42,9 +42,8 @@ use Rattle.trace_check.specs.declared.checked.Why.{Why}
 use Rattle.trace_check.specs.declared.checked.Why.TheVariants.{Form, Header, Step, Long, Witness, Sign, Truncated, Extra}
 use Rattle.trace_check.specs.declared.checked.CheckErr.{CheckErr}
 use Rattle.trace_check.specs.declared.checked.CheckErr.TheVariants as check_errors
-use Rattle.trace_check.specs.declared.replay.Replay.{Replay}
-use Rattle.trace_check.specs.declared.due.Due.{Due}
-use Rattle.trace_check.specs.declared.due.Due.TheVariants as due
+use Rattle.trace_check.specs.States.{Replay, State}
+use Rattle.trace_check.specs.States as due
 
 -- ---- Tests ----
 
@@ -142,8 +141,8 @@ stepped w (Insert p x) =
 -- ---- One line ----
 
 -- The first line.
-abbrev pub kept_start : Bool → Result Due Why
-kept_start true = Ok due.Left
+abbrev pub kept_start : Bool → Result State Why
+kept_start true = Ok due.left
 kept_start false = Err Header
 
 -- The cause of a line that has a due keyword and isn't read. Want of memory has a line here for completeness:
@@ -155,54 +154,54 @@ cause_of line_errors.Form = Form
 cause_of line_errors.Memory = Form
 
 -- What is due with a word, where it isn't too long.
-abbrev pub with_word : Result (List Letter) Why → (List Letter → Result Due Why) → Result Due Why
+abbrev pub with_word : Result (List Letter) Why → (List Letter → Result State Why) → Result State Why
 with_word (Ok w) next = next w
 with_word (Err why) next = Err why
 
 -- The left word, or the braid of the left term.
-abbrev pub kept_left : Result Said LineErr → Result Due Why
-kept_left (Ok (said.left w)) = Ok (due.Right w)
-kept_left (Ok (said.left_term t)) = with_word (stepped_to (braid t)) (λ w. Ok (due.RightTerm w))
+abbrev pub kept_left : Result Said LineErr → Result State Why
+kept_left (Ok (said.left w)) = Ok (due.right w)
+kept_left (Ok (said.left_term t)) = with_word (stepped_to (braid t)) (λ w. Ok (due.right_term w))
 kept_left (Ok other) = Err Form
 kept_left (Err e) = Err (cause_of e)
 
 -- The right word, with which the replay begins at the quotient.
-abbrev pub begun_with : List Letter → List Letter → Result Due Why
+abbrev pub begun_with : List Letter → List Letter → Result State Why
 begun_with left right =
     if nat_lt MAX_LETTERS (length (quotient left right))
     then Err Long
-    else Ok (due.Step (record { left = left; right = right; present = quotient left right; steps = 0 }))
+    else Ok (due.step (record { left = left; right = right; present = quotient left right; steps = 0 }))
 
-abbrev pub kept_right : List Letter → Result Said LineErr → Result Due Why
+abbrev pub kept_right : List Letter → Result Said LineErr → Result State Why
 kept_right left (Ok (said.right w)) = begun_with left w
 kept_right left (Ok other) = Err Form
 kept_right left (Err e) = Err (cause_of e)
 
 -- The same with the braid of the right term.
-abbrev pub kept_right_term : List Letter → Result Said LineErr → Result Due Why
+abbrev pub kept_right_term : List Letter → Result Said LineErr → Result State Why
 kept_right_term left (Ok (said.right_term t)) = with_word (stepped_to (braid t)) (begun_with left)
 kept_right_term left (Ok other) = Err Form
 kept_right_term left (Err e) = Err (cause_of e)
 
 -- A step, or the verdict.
-abbrev pub moved : Replay → Result (List Letter) Why → Result Due Why
-moved replay (Ok w) = Ok (due.Step (record replay { present = w; steps = one_more replay.steps }))
+abbrev pub moved : Replay → Result (List Letter) Why → Result State Why
+moved replay (Ok w) = Ok (due.step (record replay { present = w; steps = one_more replay.steps }))
 moved replay (Err why) = Err why
 
-abbrev pub kept_step : Replay → Result Said LineErr → Result Due Why
+abbrev pub kept_step : Replay → Result Said LineErr → Result State Why
 kept_step replay (Ok (said.step step)) = moved replay (stepped replay.present step)
-kept_step replay (Ok (said.verdict verdict)) = Ok (due.Witness replay verdict)
+kept_step replay (Ok (said.verdict verdict)) = Ok (due.witness replay verdict)
 kept_step replay (Ok other) = Err Form
 kept_step replay (Err e) = Err Form
 
 -- The witness: the present word, with the sign that goes with the verdict.
-abbrev pub shown : Replay → Verdict → List Letter → Result Due Why
+abbrev pub shown : Replay → Verdict → List Letter → Result State Why
 shown replay verdict w =
     if word_eq w replay.present
-    then (if gives_verdict (verdict_of (sign_of w)) verdict then Ok (due.Finish replay verdict) else Err Sign)
+    then (if gives_verdict (verdict_of (sign_of w)) verdict then Ok (due.finish replay verdict) else Err Sign)
     else Err Witness
 
-abbrev pub kept_witness : Replay → Verdict → Result Said LineErr → Result Due Why
+abbrev pub kept_witness : Replay → Verdict → Result Said LineErr → Result State Why
 kept_witness replay verdict (Ok (said.witness w)) = shown replay verdict w
 kept_witness replay verdict (Ok other) = Err Form
 kept_witness replay verdict (Err e) = Err (cause_of e)
@@ -217,46 +216,46 @@ claimed replay verdict = record {
   steps = replay.steps;
 }
 
-abbrev pub kept_finish : Replay → Verdict → Bool → Result Due Why
-kept_finish replay verdict true = Ok (due.Passed (claimed replay verdict))
+abbrev pub kept_finish : Replay → Verdict → Bool → Result State Why
+kept_finish replay verdict true = Ok (due.passed (claimed replay verdict))
 kept_finish replay verdict false = Err Form
 
 -- A line of the due kind is looked at; any other has this cause.
-abbrev pub of_kind : Bool → Why → Result Due Why → Result Due Why
+abbrev pub of_kind : Bool → Why → Result State Why → Result State Why
 of_kind true why kept = kept
 of_kind false why kept = Err why
 
 -- What is due after a line that isn't too long.
-abbrev pub kept_short : Due → List ℕ → Result Due Why
-kept_short due.Start line = kept_start (bytes_eq line (codes "braid-trace 1"))
-kept_short due.Left line =
+abbrev pub kept_short : State → List ℕ → Result State Why
+kept_short due.start line = kept_start (bytes_eq line (codes "braid-trace 1"))
+kept_short due.left line =
     of_kind (is_kind (kind_of line) kinds.Left || is_kind (kind_of line) kinds.LeftTerm) Header
     (kept_left (line_of line))
-kept_short (due.Right left) line =
+kept_short (due.right left) line =
     of_kind (is_kind (kind_of line) kinds.Right) Header (kept_right left (line_of line))
-kept_short (due.RightTerm left) line =
+kept_short (due.right_term left) line =
     of_kind (is_kind (kind_of line) kinds.RightTerm) Header (kept_right_term left (line_of line))
-kept_short (due.Step replay) line = kept_step replay (line_of line)
-kept_short (due.Witness replay verdict) line =
+kept_short (due.step replay) line = kept_step replay (line_of line)
+kept_short (due.witness replay verdict) line =
     of_kind (is_kind (kind_of line) kinds.Witness) Form (kept_witness replay verdict (line_of line))
-kept_short (due.Finish replay verdict) line = kept_finish replay verdict (bytes_eq line (codes "end"))
-kept_short (due.Passed claim) line = Err Extra
+kept_short (due.finish replay verdict) line = kept_finish replay verdict (bytes_eq line (codes "end"))
+kept_short (due.passed claim) line = Err Extra
 
 -- What is due after any line.
-abbrev pub kept_unless_long : Bool → Due → List ℕ → Result Due Why
-kept_unless_long long (due.Passed claim) line = Err Extra
+abbrev pub kept_unless_long : Bool → State → List ℕ → Result State Why
+kept_unless_long long (due.passed claim) line = Err Extra
 kept_unless_long true now line = Err Long
 kept_unless_long false now line = kept_short now line
 
-unfoldable pub kept : Due → List ℕ → Result Due Why
+unfoldable pub kept : State → List ℕ → Result State Why
 kept now line = kept_unless_long (nat_lt MAX_LINE (length line)) now line
 
 -- ---- All lines ----
 
 -- Where the bytes end, behind the last LF.
-abbrev pub at_end : Due → List ℕ → Result Claim Why
-at_end (due.Passed claim) [] = Ok claim
-at_end (due.Passed claim) (byte ∷ rest) = Err Extra
+abbrev pub at_end : State → List ℕ → Result Claim Why
+at_end (due.passed claim) [] = Ok claim
+at_end (due.passed claim) (byte ∷ rest) = Err Extra
 at_end now rest = if nat_lt MAX_LINE (length rest) then Err Long else Err Truncated
 
 -- A refusal, at its line.
@@ -265,18 +264,18 @@ at_line k (Ok x) = Ok x
 at_line k (Err why) = Err (k, why)
 
 -- What is due next goes on; a refusal stays.
-abbrev pub walk_on : ℕ → Result Due Why → (Due → Result Claim (ℕ × Why)) → Result Claim (ℕ × Why)
+abbrev pub walk_on : ℕ → Result State Why → (State → Result Claim (ℕ × Why)) → Result Claim (ℕ × Why)
 walk_on k (Ok next) go_on = go_on next
 walk_on k (Err why) go_on = Err (k, why)
 
 -- The lines from number k on, and then what stands behind the last LF.
-abbrev pub walk : ℕ → Due → List (List ℕ) → List ℕ → Result Claim (ℕ × Why)
+abbrev pub walk : ℕ → State → List (List ℕ) → List ℕ → Result Claim (ℕ × Why)
 walk k now [] rest = at_line k (at_end now rest)
 walk k now (line ∷ ls) rest = walk_on k (kept now line) (λ next. walk (one_more k) next ls rest)
 
 -- What a file claims, or its first refusal. Its lines count from 1.
 unfoldable pub checked_of : List ℕ → Result Claim (ℕ × Why)
-checked_of bytes = walk 1 due.Start (cut bytes).0 (cut bytes).1
+checked_of bytes = walk 1 due.start (cut bytes).0 (cut bytes).1
 
 -- What a checker answered is what the file is, unless memory ran out.
 abbrev pub Fails : CheckErr → Result Claim (ℕ × Why) → Type 0

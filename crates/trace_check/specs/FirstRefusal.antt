@@ -20,16 +20,16 @@ use Rattle.trace_check.specs.Checking.{kept, at_end}
 use Rattle.trace_check.specs.declared.checked.Why.{Why}
 use Rattle.trace_check.specs.declared.checked.CheckErr.{CheckErr}
 use Rattle.trace_check.specs.declared.checked.CheckErr.TheVariants.{Refused, Memory}
-use Rattle.trace_check.specs.declared.due.Due.{Due}
-use Rattle.trace_check.specs.declared.due.Due.TheVariants as due
+use Rattle.trace_check.specs.States.{State}
+use Rattle.trace_check.specs.States as due
 
 -- Each line is kept, and the next is looked at by what is then due.
-abbrev pub AreKept : Due → List (List ℕ) → Due → Type 0
+abbrev pub AreKept : State → List (List ℕ) → State → Type 0
 AreKept now [] last = now ≡ last
-AreKept now (line ∷ ls) last = (next : Due) × (kept now line ≡ Ok next) × AreKept next ls last
+AreKept now (line ∷ ls) last = (next : State) × (kept now line ≡ Ok next) × AreKept next ls last
 
 -- What is left of the file can't stand there: its first whole line or, without one, the end.
-abbrev pub IsRefused : Due → List (List ℕ) → List ℕ → Why → Type 0
+abbrev pub IsRefused : State → List (List ℕ) → List ℕ → Why → Type 0
 IsRefused now [] rest why = at_end now rest ≡ Err why
 IsRefused now (line ∷ ls) rest why = kept now line ≡ Err why
 
@@ -37,10 +37,10 @@ IsRefused now (line ∷ ls) rest why = kept now line ≡ Err why
 pub record IsFirstRefusal (bytes : List ℕ) (k : ℕ) (why : Why) : Type 0 where
   pub before : List (List ℕ)
   pub others : List (List ℕ)
-  pub last : Due
+  pub last : State
   pub lines : (cut bytes).0 ≡ before ++ others
   pub number : k ≡ min (length before + 1) (2 ^ 64 - 1)
-  pub kept : AreKept due.Start before last
+  pub kept : AreKept due.start before last
   pub refused : IsRefused last others (cut bytes).1 why
 
 -- No line of the file is refused, and it may end so.

@@ -1,5 +1,7 @@
 -- What the functions that keep one line answer. No public clause cites this module.
 --
+--   replay_of held          the replay that the code holds
+--   state_of held           the state that the code holds
 --   stop_of error           why a line isn't kept that wasn't read
 --   Keeps result kept       what was answered is what is due, unless memory ran out
 --   StepsTo result stepped  the same of the word that a step leads to
@@ -9,9 +11,27 @@ use Rattle.trace_format.specs.declared.line.LineErr.{LineErr}
 use Rattle.trace_format.specs.declared.line.LineErr.TheVariants as line_errors
 use Rattle.trace_check.specs.Checking.{cause_of}
 use Rattle.trace_check.specs.declared.checked.Why.{Why}
+use Rattle.trace_check.specs.States.{Replay, State}
+use Rattle.trace_check.specs.States as due
 use Rattle.trace_check.specs.declared.due.Due.{Due}
+use Rattle.trace_check.specs.declared.due.Due.TheVariants as held
+use Rattle.trace_check.specs.declared.replay.Replay.{Replay as Held}
 use Rattle.trace_check.specs.declared.keep.Stop.{Stop}
 use Rattle.trace_check.specs.declared.keep.Stop.TheVariants.{Refused, Memory}
+
+-- What the code holds of a file, as what was read of it.
+abbrev pub replay_of : Held → Replay
+replay_of r = record { left = r.left; right = r.right; present = r.present; steps = r.steps }
+
+abbrev pub state_of : Due → State
+state_of held.Start = due.start
+state_of held.Left = due.left
+state_of (held.Right w) = due.right w
+state_of (held.RightTerm w) = due.right_term w
+state_of (held.Step r) = due.step (replay_of r)
+state_of (held.Witness r verdict) = due.witness (replay_of r) verdict
+state_of (held.Finish r verdict) = due.finish (replay_of r) verdict
+state_of (held.Passed claim) = due.passed claim
 
 abbrev pub stop_of : LineErr → Stop
 stop_of line_errors.Memory = Memory
@@ -23,8 +43,8 @@ abbrev pub Fails : {X : Type 0} → Stop → Result X Why → Type 0
 Fails Memory kept = Unit {0}
 Fails (Refused why) kept = kept ≡ Err why
 
-abbrev pub Keeps : Result Due Stop → Result Due Why → Type 0
-Keeps (Ok next) kept = kept ≡ Ok next
+abbrev pub Keeps : Result Due Stop → Result State Why → Type 0
+Keeps (Ok next) kept = kept ≡ Ok (state_of next)
 Keeps (Err e) kept = Fails e kept
 
 abbrev pub StepsTo : Result (List Letter) Stop → Result (List Letter) Why → Type 0

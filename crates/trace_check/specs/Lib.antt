@@ -1,4 +1,5 @@
 pub mod Accepted
+pub mod States
 pub mod Checking
 pub mod Keeping
 pub mod FirstRefusal

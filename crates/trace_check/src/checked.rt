@@ -53,7 +53,13 @@ impl Model for Checked {
 
     ghost Value = { Claim };
 
-    ghost view = { λ s. record { left = s.left; right = s.right; verdict = s.verdict; witness = s.witness; steps = s.steps } };
+    ghost view = { λ s. record {
+      left = s.left;
+      right = s.right;
+      verdict = s.verdict;
+      witness = s.witness;
+      steps = s.steps;
+    } };
 }
 
 impl Checked {
@@ -65,7 +71,8 @@ impl Checked {
         witness: Word,
         steps: u64,
     ) -> Checked
-        ensures { result ≡ record { left = left; right = right; verdict = verdict; witness = witness; steps = steps } }
+        ensures { result
+            ≡ record { left = left; right = right; verdict = verdict; witness = witness; steps = steps } }
     {
         Checked {
             left,

@@ -3,6 +3,7 @@ ghost use Rattle.wb_base.specs.Lines.{cut};
 ghost use Rattle.trace_format.specs.TraceText.{Trace};
 ghost use Rattle.trace_check.specs.Accepted.{IsAccepted, claim_of, IsValid};
 ghost use Rattle.trace_check.specs.Checking.{at_end, at_line, checked_of, Gives};
+ghost use Rattle.trace_check.specs.Keeping.{state_of};
 ghost use Rattle.trace_check.specs.FirstRefusal.{IsFirstRefusal, HasNoRefusal, IfRefused};
 ghost use Rattle.trace_check.specs.declared.checked.Why.{Why as Cause};
 
@@ -28,7 +29,7 @@ fn first_line(bytes: &[u8]) -> Option<(&[u8], &[u8])>
 
 // What a file claims of which these bytes without LF are left.
 fn finish(due: Due, rest: &[u8], line: u64) -> Result<Checked, CheckErr>
-    ensures { Gives result (at_line line (at_end due rest.now)) }
+    ensures { Gives result (at_line line (at_end (state_of due) rest.now)) }
 {
     match due {
         Due::Passed(checked) if rest.is_empty() => Ok(checked),
@@ -76,7 +77,8 @@ fn replay(alloc: Global, bytes: &[u8]) -> Result<Checked, CheckErr>
 /// the words and the terms, and for the word of one step at a time. The format is this project's.
 pub fn check(alloc: Global, bytes: &[u8]) -> Result<Checked, CheckErr>
     // What it claims is what the trace claims whose text the file is, which is accepted, and so is valid.
-    ensures accepted { IfOk result (λ claim. (t : Trace) × IsAccepted bytes.now t × IsValid t × (claim ≡ claim_of t)) }
+    ensures accepted { IfOk result
+        (λ claim. (t : Trace) × IsAccepted bytes.now t × IsValid t × (claim ≡ claim_of t)) }
 
     // What is accepted isn't refused, unless memory runs out, and is the text of one trace alone.
     ensures only { (t : Trace) → IsAccepted bytes.now t → Gives result (Ok (claim_of t)) }
@@ -85,7 +87,8 @@ pub fn check(alloc: Global, bytes: &[u8]) -> Result<Checked, CheckErr>
     // A refusal is the file's first; that one is answered, unless memory runs out; and there is none exactly
     // where the file is the text of an accepted trace.
     ensures refused { IfRefused result (IsFirstRefusal bytes.now) }
-    ensures first { (line : ℕ) (why : Cause) → IsFirstRefusal bytes.now line why → Gives result (Err (line, why)) }
+    ensures first { (line : ℕ) (why : Cause) → IsFirstRefusal bytes.now line why
+        → Gives result (Err (line, why)) }
     ensures unrefused { HasNoRefusal bytes.now ↔ ((t : Trace) × IsAccepted bytes.now t) }
 
     // What it claims, or its first refusal.

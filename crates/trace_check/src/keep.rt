@@ -11,8 +11,8 @@ ghost use Rattle.term_eval.specs.Braids.{braid};
 ghost use Rattle.trace_format.specs.Said.{said_by};
 ghost use Rattle.trace_format.specs.TraceLines.{IsShortTerm, IsLine, IsStepLine};
 ghost use Rattle.trace_check.specs.Checking.{begun_with, kept, kept_short, kept_step, moved, stepped, stepped_to, shown};
-ghost use Rattle.trace_check.specs.Keeping.{Keeps, StepsTo, stop_of};
-ghost use Rattle.trace_check.specs.declared.due.Due.TheVariants.{Start, Left, Right, RightTerm, Step, Witness, Finish};
+ghost use Rattle.trace_check.specs.Keeping.{Keeps, StepsTo, replay_of, state_of, stop_of};
+ghost use Rattle.trace_check.specs.States as state;
 ghost use Rattle.trace_format.specs.declared.line.LineErr.TheVariants.{Memory};
 
 use crate::MAX_LINE;
@@ -58,7 +58,7 @@ impl From<AllocError> for Stop {
 
 // The start.
 fn keep_start(line: &[u8]) -> Result<Due, Stop>
-    ensures { Keeps result (kept_short Start line.now) }
+    ensures { Keeps result (kept_short state.start line.now) }
 {
     if line == b"braid-trace 1".as_slice() {
         Ok(Due::Left)
@@ -71,7 +71,8 @@ fn keep_start(line: &[u8]) -> Result<Due, Stop>
 fn graph_of(alloc: Global, tree: &Tree) -> Result<(TermGraph, NodeId), AllocError>
     requires nameless { HasNoName (written tree.now) }
     requires small { IsShortTerm (as_term (written tree.now)) }
-    ensures { IfOk result (λ made. (made.1 < length made.0) × (term_at made.0 made.1 ≡ as_term (written tree.now))) }
+    ensures { IfOk result
+        (λ made. (made.1 < length made.0) × (term_at made.0 made.1 ≡ as_term (written tree.now))) }
 {
     let mut graph = TermGraph::new(alloc)?;
     match graph.insert(tree, &Names::new(alloc)) {
@@ -99,7 +100,7 @@ fn braid_of(alloc: Global, tree: &Tree) -> Result<Word, Stop>
 
 // The left word, or the left term.
 fn keep_left(alloc: Global, line: &[u8]) -> Result<Due, Stop>
-    ensures { Keeps result (kept_short Left line.now) }
+    ensures { Keeps result (kept_short state.left line.now) }
 {
     let Some(Kind::Left | Kind::LeftTerm) = kind_of(line) else {
         return Err(Stop::Refused(Why::Header));
@@ -129,7 +130,7 @@ fn begin(alloc: Global, left: Word, right: Word) -> Result<Due, Stop>
 
 // The right word, behind the left one.
 fn keep_right(alloc: Global, left: Word, line: &[u8]) -> Result<Due, Stop>
-    ensures { Keeps result (kept_short (Right left) line.now) }
+    ensures { Keeps result (kept_short (state.right left) line.now) }
 {
     let Some(Kind::Right) = kind_of(line) else {
         return Err(Stop::Refused(Why::Header));
@@ -142,7 +143,7 @@ fn keep_right(alloc: Global, left: Word, line: &[u8]) -> Result<Due, Stop>
 
 // The right term, behind a left one with this braid word.
 fn keep_right_term(alloc: Global, left: Word, line: &[u8]) -> Result<Due, Stop>
-    ensures { Keeps result (kept_short (RightTerm left) line.now) }
+    ensures { Keeps result (kept_short (state.right_term left) line.now) }
 {
     let Some(Kind::RightTerm) = kind_of(line) else {
         return Err(Stop::Refused(Why::Header));
@@ -156,7 +157,7 @@ fn keep_right_term(alloc: Global, left: Word, line: &[u8]) -> Result<Due, Stop>
 // A step of the replay.
 fn keep_move(alloc: Global, replay: Replay, step: StepLine) -> Result<Due, Stop>
     requires { IsStepLine step }
-    ensures { Keeps result (moved replay (stepped replay.present step)) }
+    ensures { Keeps result (moved (replay_of replay) (stepped replay.present step)) }
 {
     let present = step_to(alloc, replay.present.letters(), step)?;
     Ok(Due::Step(Replay {
@@ -170,7 +171,7 @@ fn keep_move(alloc: Global, replay: Replay, step: StepLine) -> Result<Due, Stop>
 // A step, or the verdict, as the line says it.
 fn keep_said(alloc: Global, replay: Replay, said: Line) -> Result<Due, Stop>
     requires { IsLine (said_by said) }
-    ensures { Keeps result (kept_step replay (Ok (said_by said))) }
+    ensures { Keeps result (kept_step (replay_of replay) (Ok (said_by said))) }
 {
     match said {
         Line::Step(step) => keep_move(alloc, replay, step),
@@ -181,7 +182,7 @@ fn keep_said(alloc: Global, replay: Replay, said: Line) -> Result<Due, Stop>
 
 // A step, or the verdict.
 fn keep_step(alloc: Global, replay: Replay, line: &[u8]) -> Result<Due, Stop>
-    ensures { Keeps result (kept_short (Step replay) line.now) }
+    ensures { Keeps result (kept_short (state.step (replay_of replay)) line.now) }
 {
     match read_line(alloc, line) {
         Ok(said) => keep_said(alloc, replay, said),
@@ -206,7 +207,7 @@ fn has_sign_of(word: &[Letter], verdict: Verdict) -> bool
 
 // The witness of a verdict, by its word.
 fn show(replay: Replay, verdict: Verdict, word: Word) -> Result<Due, Stop>
-    ensures { Keeps result (shown replay verdict word) }
+    ensures { Keeps result (shown (replay_of replay) verdict word) }
 {
     if !are_same(word.letters(), replay.present.letters()) {
         return Err(Stop::Refused(Why::Witness));
@@ -219,7 +220,7 @@ fn show(replay: Replay, verdict: Verdict, word: Word) -> Result<Due, Stop>
 
 // The witness of a verdict.
 fn keep_witness(alloc: Global, replay: Replay, verdict: Verdict, line: &[u8]) -> Result<Due, Stop>
-    ensures { Keeps result (kept_short (Witness replay verdict) line.now) }
+    ensures { Keeps result (kept_short (state.witness (replay_of replay) verdict) line.now) }
 {
     let Some(Kind::Witness) = kind_of(line) else {
         return Err(Stop::Refused(Why::Form));
@@ -232,7 +233,7 @@ fn keep_witness(alloc: Global, replay: Replay, verdict: Verdict, line: &[u8]) ->
 
 // The end.
 fn keep_finish(replay: Replay, verdict: Verdict, line: &[u8]) -> Result<Due, Stop>
-    ensures { Keeps result (kept_short (Finish replay verdict) line.now) }
+    ensures { Keeps result (kept_short (state.finish (replay_of replay) verdict) line.now) }
 {
     if line == b"end".as_slice() {
         let Replay {
@@ -250,7 +251,7 @@ fn keep_finish(replay: Replay, verdict: Verdict, line: &[u8]) -> Result<Due, Sto
 /// What is due after a line, which is given without its LF.
 #[tactic(auto, unfolding(crate::specs::Checking::kept))]
 pub fn keep(alloc: Global, due: Due, line: &[u8]) -> Result<Due, Stop>
-    ensures { Keeps result (kept due line.now) }
+    ensures { Keeps result (kept (state_of due) line.now) }
 {
     match due {
         Due::Passed(_) => Err(Stop::Refused(Why::Extra)),

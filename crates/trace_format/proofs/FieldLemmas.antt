@@ -17,7 +17,8 @@ use Rattle.braid_word.specs.declared.TheConstants.{MAX_INDEX}
 use Rattle.braid_word.specs.declared.reader.WordErr.{WordErr}
 use Rattle.braid_word.specs.declared.reader.WordErr.TheVariants as word_errors
 use Rattle.braid_word.proofs.NotationLemmas.{word_text-nil}
-use Rattle.braid_word.proofs.SpellingLemmas.{Ok-cond, Ok-injective, strict_word_of-is, strict_word_of-word_text, length-word_text}
+use Rattle.wb_base.proofs.PartLemmas.{Ok-cond, Ok-injective, Some-cond}
+use Rattle.braid_word.proofs.SpellingLemmas.{strict_word_of-is, strict_word_of-word_text, length-word_text}
 use Rattle.trace_format.specs.declared.verdict.Verdict.{Verdict}
 use Rattle.trace_format.specs.declared.verdict.Verdict.TheVariants.{Less, Equal, Greater}
 use Rattle.trace_format.specs.declared.line.StepLine.{StepLine}
@@ -98,14 +99,6 @@ IsBehind-word_field [] = tt
 IsBehind-word_field (x ∷ w) = refl
 
 -- ---- Places ----
-
--- what is found where a test passes
-Some-cond
-    : {A : Type 0} (b : Bool) (o : Option A) (y : A)
-    → cond b o None ≡ Some y
-    → (b ≡ true) × (o ≡ Some y)
-Some-cond true o y is = (refl, is)
-Some-cond false o y is = absurd (cc)
 
 -- What some bytes are where a place stands in front, and these are left.
 record IsPlaced (bytes : List ℕ) (p : ℕ) (rest : List ℕ) : Type 0 where

@@ -7,7 +7,8 @@ use Rattle.std.proofs.lemmas.Bool.{cases_lt, le-ltb, lt-ltb, ltb-false}
 use Rattle.std.proofs.lemmas.List.{take_all}
 use Rattle.std.proofs.lemmas.List.Elements.{All-nil, All-cons, All-append}
 use Rattle.braid_word.specs.declared.TheConstants.{MAX_INDEX}
-use Rattle.braid_word.proofs.SpellingLemmas.{Ok-injective, AllAbove}
+use Rattle.wb_base.proofs.PartLemmas.{Ok-injective}
+use Rattle.braid_word.proofs.SpellingLemmas.{AllAbove}
 use Rattle.ld_term.specs.Terms.{Term, variable, multiply, height, leaf_count}
 use Rattle.ld_term.specs.Written.{Written, written_height, written_products}
 use Rattle.ld_term.specs.StrictTexts.{as_written, as_term, strict_text, strict_term_of}
@@ -123,7 +124,8 @@ module _
         ap (λ v. written_products v + 1) written_is ∙ written_products-as_written t in
         let same : t ≡ as_term w = sym (ap as_term written_is ∙ as_term-as_written t) in
         field_term-read
-        ∙ short_term-small t (record { low = omega (arith, height-is, low); few = omega (arith, products, small.few) })
+        ∙ short_term-small t
+        (record { low = omega (arith, height-is, low); few = omega (arith, products, small.few) })
         ∙ ap (λ u. Ok u) same
 
     -- one that isn't

@@ -59,7 +59,8 @@ step_rows = refl
 
 -- the first word is what stands before the first space, all of it; behind a space in front it is empty
 kind_rows
-    : map kind_of (codes "left-term" ∷ (codes "left -term" ∷ (codes "lefts" ∷ (codes " left" ∷ [])))) ≡ Some kinds.LeftTerm ∷ Some kinds.Left ∷ None ∷ None ∷ []
+    : map kind_of (codes "left-term" ∷ (codes "left -term" ∷ (codes "lefts" ∷ (codes " left" ∷ []))))
+    ≡ Some kinds.LeftTerm ∷ Some kinds.Left ∷ None ∷ None ∷ []
 kind_rows = refl
 
 -- the first place of a handle stands first, and a place has no leading zero
@@ -126,6 +127,9 @@ no_place_row bounds = absurd (omega (arith, bounds))
 
 -- `2` is less than `1`, and `1` greater than `2`; the quotient of `1` and `1`, which is `-1 1`, gives none
 verdict_rows
-    : map verdict_of (sign_of (quotient (letter 2 false ∷ []) (letter 1 false ∷ [])) ∷ (sign_of (quotient (letter 1 false ∷ []) (letter 2 false ∷ [])) ∷ (sign_of (quotient [] []) ∷ (sign_of (quotient (letter 1 false ∷ []) (letter 1 false ∷ [])) ∷ []))))
+    : map verdict_of
+    (sign_of (quotient (letter 2 false ∷ []) (letter 1 false ∷ [])) ∷
+    (sign_of (quotient (letter 1 false ∷ []) (letter 2 false ∷ [])) ∷
+    (sign_of (quotient [] []) ∷ (sign_of (quotient (letter 1 false ∷ []) (letter 1 false ∷ [])) ∷ []))))
     ≡ Some Less ∷ Some Greater ∷ Some Equal ∷ None ∷ []
 verdict_rows = refl

@@ -9,7 +9,7 @@ use Rattle.std.proofs.lemmas.List.{append-nil}
 use Rattle.wb_base.specs.Lines.{lines_of, line}
 use Rattle.wb_base.proofs.LineLemmas.{HasNoLf, lines_of-flat_map}
 use Rattle.braid_word.specs.Words.{Letter}
-use Rattle.braid_word.proofs.SpellingLemmas.{Ok-injective}
+use Rattle.wb_base.proofs.PartLemmas.{Ok-injective}
 use Rattle.ld_term.specs.Terms.{Term}
 use Rattle.ld_term.specs.StrictTexts.{strict_text}
 use Rattle.trace_format.specs.declared.verdict.Verdict.{Verdict}

@@ -121,7 +121,8 @@ pub record IsShortTerm (t : Term) : Type 0 where
 -- A term that was read, where it isn't too large.
 abbrev pub short_term : Option Term → Result Term LineErr
 short_term None = Err Form
-short_term (Some t) = if nat_lt MAX_INDEX (height t) || nat_lt (MAX_PRODUCTS + 1) (leaf_count t) then Err Long else Ok t
+short_term (Some t) =
+    if nat_lt MAX_INDEX (height t) || nat_lt (MAX_PRODUCTS + 1) (leaf_count t) then Err Long else Ok t
 
 -- A term behind its keyword: a space, and its strict text.
 abbrev pub field_term : List ℕ → Result Term LineErr

@@ -73,7 +73,8 @@ verdict_word Greater = codes "greater"
 -- The lines before the steps, for two words.
 abbrev pub word_head_text : List Letter → List Letter → List ℕ
 word_head_text left right =
-    line (codes "braid-trace 1") ++ line (codes "left" ++ word_field left) ++ line (codes "right" ++ word_field right)
+    line (codes "braid-trace 1") ++ line (codes "left" ++ word_field left)
+    ++ line (codes "right" ++ word_field right)
 
 -- The same for the texts of two terms.
 abbrev pub term_head_text : List ℕ → List ℕ → List ℕ
@@ -88,7 +89,8 @@ head_text (terms t u) = term_head_text (strict_text t) (strict_text u)
 -- The lines behind the steps.
 abbrev pub tail_text : Verdict → List Letter → List ℕ
 tail_text verdict witness =
-    line (codes "verdict " ++ verdict_word verdict) ++ line (codes "witness" ++ word_field witness) ++ line (codes "end")
+    line (codes "verdict " ++ verdict_word verdict) ++ line (codes "witness" ++ word_field witness)
+    ++ line (codes "end")
 
 -- The text of a trace file.
 unfoldable pub trace_text : Trace → List ℕ
@@ -96,4 +98,5 @@ trace_text t = head_text t.header ++ flat_map step_line t.steps ++ tail_text t.v
 
 -- The text of a trace file of two terms that are given by their texts.
 unfoldable pub term_trace_text : TermTrace → List ℕ
-term_trace_text t = term_head_text t.left t.right ++ flat_map step_line t.steps ++ tail_text t.verdict t.witness
+term_trace_text t =
+    term_head_text t.left t.right ++ flat_map step_line t.steps ++ tail_text t.verdict t.witness

@@ -13,7 +13,15 @@ ghost use Rattle.trace_format.specs.declared.verdict.Verdict.{Verdict as Decisio
 /// The law is the contract; the body does nothing.
 pub fn law_trace_text()
     ensures one { (s : Trace) → (t : Trace) → IsTrace s → IsTrace t → trace_text s ≡ trace_text t → s ≡ t }
-    ensures terms { (t : Term) → (u : Term) → (steps : List Step) → (verdict : Decision) → (witness : List Letter)
-        → term_trace_text (record { left = strict_text t; right = strict_text u; steps = steps; verdict = verdict; witness = witness })
+    ensures terms { (t : Term) → (u : Term) → (steps : List Step) → (verdict : Decision)
+        → (witness : List Letter)
+        → term_trace_text
+        (record {
+          left = strict_text t;
+          right = strict_text u;
+          steps = steps;
+          verdict = verdict;
+          witness = witness;
+        })
         ≡ trace_text (record { header = terms t u; steps = steps; verdict = verdict; witness = witness }) }
 {}

@@ -27,9 +27,11 @@ pub(crate) fn put_word_line<K: Sink>(
     keyword: &[u8],
     word: &[Letter],
 ) -> Result<(), Failed>
-    ensures took { Puts (K.taken sink.old) (K.taken sink.new) result (line (keyword.now ++ word_field word.now)) }
+    ensures took { Puts (K.taken sink.old) (K.taken sink.new) result
+        (line (keyword.now ++ word_field word.now)) }
     ensures cause { HasCause (K.faults sink.old) (K.faults sink.new) result }
-    ensures waits { K.waiting sink.new ≤ K.waiting sink.old + length (line (keyword.now ++ word_field word.now)) }
+    ensures waits { K.waiting sink.new ≤ K.waiting sink.old
+        + length (line (keyword.now ++ word_field word.now)) }
 {
     give_all(sink, keyword)?;
     put_word_field(sink, word)?;

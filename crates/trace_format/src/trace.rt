@@ -22,9 +22,11 @@ fn put_step<K: Sink>(sink: &mut K, step: (u32, u32)) -> Result<(), Failed>
 
 // Gives the lines of all steps of an account.
 fn put_steps<K: Sink, A: Account>(sink: &mut K, account: &A) -> Result<(), Failed>
-    ensures took { Puts (K.taken sink.old) (K.taken sink.new) result (flat_map step_line (map handle_step (A.steps account.now))) }
+    ensures took { Puts (K.taken sink.old) (K.taken sink.new) result
+        (flat_map step_line (map handle_step (A.steps account.now))) }
     ensures cause { HasCause (K.faults sink.old) (K.faults sink.new) result }
-    ensures waits { K.waiting sink.new ≤ K.waiting sink.old + length (flat_map step_line (map handle_step (A.steps account.now))) }
+    ensures waits { K.waiting sink.new ≤ K.waiting sink.old
+        + length (flat_map step_line (map handle_step (A.steps account.now))) }
 {
     for k in 0..account.steps_done() {
         put_step(sink, account.step_at(k))?;
@@ -46,9 +48,11 @@ fn put_current<K: Sink, A: Account>(sink: &mut K, account: &A) -> Result<(), Fai
 
 // Gives the witness line.
 fn put_witness<K: Sink, A: Account>(sink: &mut K, account: &A) -> Result<(), Failed>
-    ensures took { Puts (K.taken sink.old) (K.taken sink.new) result (line (codes "witness" ++ word_field (A.current account.now))) }
+    ensures took { Puts (K.taken sink.old) (K.taken sink.new) result
+        (line (codes "witness" ++ word_field (A.current account.now))) }
     ensures cause { HasCause (K.faults sink.old) (K.faults sink.new) result }
-    ensures waits { K.waiting sink.new ≤ K.waiting sink.old + length (line (codes "witness" ++ word_field (A.current account.now))) }
+    ensures waits { K.waiting sink.new ≤ K.waiting sink.old
+        + length (line (codes "witness" ++ word_field (A.current account.now))) }
 {
     give_all(sink, b"witness")?;
     put_current(sink, account)?;
@@ -68,9 +72,11 @@ fn verdict_line(verdict: Verdict) -> &'static [u8]
 
 // Gives the verdict line.
 fn put_verdict<K: Sink>(sink: &mut K, verdict: Verdict) -> Result<(), Failed>
-    ensures took { Puts (K.taken sink.old) (K.taken sink.new) result (line (codes "verdict " ++ verdict_word verdict)) }
+    ensures took { Puts (K.taken sink.old) (K.taken sink.new) result
+        (line (codes "verdict " ++ verdict_word verdict)) }
     ensures cause { HasCause (K.faults sink.old) (K.faults sink.new) result }
-    ensures waits { K.waiting sink.new ≤ K.waiting sink.old + length (line (codes "verdict " ++ verdict_word verdict)) }
+    ensures waits { K.waiting sink.new ≤ K.waiting sink.old
+        + length (line (codes "verdict " ++ verdict_word verdict)) }
 {
     put_line(sink, verdict_line(verdict))
 }
@@ -99,9 +105,11 @@ fn put_term_head<K: Sink>(sink: &mut K, left: &[u8], right: &[u8]) -> Result<(),
 
 // Gives the lines behind the steps.
 fn put_tail<K: Sink, A: Account>(sink: &mut K, account: &A, verdict: Verdict) -> Result<(), Failed>
-    ensures took { Puts (K.taken sink.old) (K.taken sink.new) result (tail_text verdict (A.current account.now)) }
+    ensures took { Puts (K.taken sink.old) (K.taken sink.new) result
+        (tail_text verdict (A.current account.now)) }
     ensures cause { HasCause (K.faults sink.old) (K.faults sink.new) result }
-    ensures waits { K.waiting sink.new ≤ K.waiting sink.old + length (tail_text verdict (A.current account.now)) }
+    ensures waits { K.waiting sink.new ≤ K.waiting sink.old
+        + length (tail_text verdict (A.current account.now)) }
 {
     put_verdict(sink, verdict)?;
     put_witness(sink, account)?;
@@ -111,10 +119,12 @@ fn put_tail<K: Sink, A: Account>(sink: &mut K, account: &A, verdict: Verdict) ->
 // Gives the lines from the first step on.
 fn put_body<K: Sink, A: Account>(sink: &mut K, account: &A, verdict: Verdict) -> Result<(), Failed>
     ensures took { Puts (K.taken sink.old) (K.taken sink.new) result
-        (flat_map step_line (map handle_step (A.steps account.now)) ++ tail_text verdict (A.current account.now)) }
+        (flat_map step_line (map handle_step (A.steps account.now))
+        ++ tail_text verdict (A.current account.now)) }
     ensures cause { HasCause (K.faults sink.old) (K.faults sink.new) result }
     ensures waits { K.waiting sink.new ≤ K.waiting sink.old + length
-        (flat_map step_line (map handle_step (A.steps account.now)) ++ tail_text verdict (A.current account.now)) }
+        (flat_map step_line (map handle_step (A.steps account.now))
+        ++ tail_text verdict (A.current account.now)) }
 {
     put_steps(sink, account)?;
     put_tail(sink, account, verdict)
@@ -133,10 +143,20 @@ pub fn put_trace<K: Sink, A: Account>(
     verdict: Verdict,
 ) -> Result<(), Failed>
     ensures took { Puts (K.taken sink.old) (K.taken sink.new) result
-        (trace_text (record { header = words left.now right.now; steps = map handle_step (A.steps account.now); verdict = verdict; witness = A.current account.now })) }
+        (trace_text (record {
+          header = words left.now right.now;
+          steps = map handle_step (A.steps account.now);
+          verdict = verdict;
+          witness = A.current account.now;
+        })) }
     ensures cause { HasCause (K.faults sink.old) (K.faults sink.new) result }
     ensures waits { K.waiting sink.new ≤ K.waiting sink.old + length
-        (trace_text (record { header = words left.now right.now; steps = map handle_step (A.steps account.now); verdict = verdict; witness = A.current account.now })) }
+        (trace_text (record {
+          header = words left.now right.now;
+          steps = map handle_step (A.steps account.now);
+          verdict = verdict;
+          witness = A.current account.now;
+        })) }
 {
     put_head(sink, left, right)?;
     put_body(sink, account, verdict)
@@ -155,10 +175,24 @@ pub fn put_term_trace<K: Sink, A: Account>(
     verdict: Verdict,
 ) -> Result<(), Failed>
     ensures took { Puts (K.taken sink.old) (K.taken sink.new) result
-        (term_trace_text (record { left = left.now; right = right.now; steps = map handle_step (A.steps account.now); verdict = verdict; witness = A.current account.now })) }
+        (term_trace_text
+        (record {
+          left = left.now;
+          right = right.now;
+          steps = map handle_step (A.steps account.now);
+          verdict = verdict;
+          witness = A.current account.now;
+        })) }
     ensures cause { HasCause (K.faults sink.old) (K.faults sink.new) result }
     ensures waits { K.waiting sink.new ≤ K.waiting sink.old + length
-        (term_trace_text (record { left = left.now; right = right.now; steps = map handle_step (A.steps account.now); verdict = verdict; witness = A.current account.now })) }
+        (term_trace_text
+        (record {
+          left = left.now;
+          right = right.now;
+          steps = map handle_step (A.steps account.now);
+          verdict = verdict;
+          witness = A.current account.now;
+        })) }
 {
     put_term_head(sink, left, right)?;
     put_body(sink, account, verdict)

@@ -8,7 +8,8 @@ returns-in_err-text c =
 
 pub returns-in-Some : goal.returns-in-Some
 returns-in-Some c =
-    field_first _ _ _ (sym c.first_other.ensures ∙ c.in_ok-text.was) (sym c.first_space.ensures ∙ c.in-Some.is)
+    field_first _ _ _ (sym c.first_other.ensures ∙ c.in_ok-text.was)
+    (sym c.first_space.ensures ∙ c.in-Some.is)
 
 pub returns-in-None : goal.returns-in-None
 returns-in-None c =

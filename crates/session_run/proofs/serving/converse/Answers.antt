@@ -2,7 +2,8 @@ use Rattle.std.proofs.Common.{◌≡◌, ℕ, ◌+◌, ◌<◌, ◌≤◌, ap, a
 use Rattle.std.proofs.lemmas.List.{length-take, length-take-le}
 use Rattle.session_run.specs.declared.TheConstants.{MAX_INPUT, MAX_PIECE}
 use Rattle.session_run.proofs.TalkLemmas.{ok_no_fault, memory_no_fault}
-use Rattle.session_run.proofs.ServingLemmas.{HasHeard-begun, HasHeard-more, IsAtLast-now, IsPast-now, served-read, served-done, served-cut_last, served-short_last, served-limit, served-cut_limit, served-cut, served-short}
+use Rattle.session_run.proofs.ServingLemmas.{HasHeard-begun, HasHeard-more, IsAtLast-now, IsPast-now}
+use Rattle.session_run.proofs.ServedLemmas.{served-read, served-done, served-cut_last, served-short_last, served-limit, served-cut_limit, served-cut, served-short}
 use Rattle.session_run.proofs.serving.converse.Goals.{in-Ok-finish, in-Err-Fault, in-Err-Memory, in-Ok-put_limit, in-Err}
 use Rattle.session_run.proofs.serving.converse.Goals as goal
 
@@ -43,7 +44,17 @@ pub returns-then-count-eq-MAX_INPUT : goal.returns-then-count-eq-MAX_INPUT
 returns-then-count-eq-MAX_INPUT g c =
     let size = length-take-le c.in-Ok.n c.take.new.into c.in-Ok.ensures.within in
     let one : length (take c.in-Ok.n c.take.new.into) ≡ 1
-    = omega (arith, size, c.take.auto.into, c.max.ensures, c.min-room.ensures, length-take {A = ℕ}, c.in-Ok.ensures.within, c.if-n-eq0.false, c.if-count-eq-MAX_INPUT.true) in
+    = omega (
+      arith,
+      size,
+      c.take.auto.into,
+      c.max.ensures,
+      c.min-room.ensures,
+      length-take {A = ℕ},
+      c.in-Ok.ensures.within,
+      c.if-n-eq0.false,
+      c.if-count-eq-MAX_INPUT.true,
+    ) in
     let past = IsPast-now _ _ _ _ _ _ _ _ _ c.hearing.invariant c.if-count-eq-MAX_INPUT.true
     c.in-Ok.ensures.bytes.0 one c.in-Ok.ensures.cause.later c.take.ensures.counted in
     elim c.match-put_limit.branch [
@@ -57,17 +68,35 @@ returns-then-count-eq-MAX_INPUT g c =
 
 pub overflow_add-count : goal.overflow_add-count
 overflow_add-count g c =
-    omega (arith, c.take.auto.into, c.max.ensures, c.min-room.ensures, length-take {A = ℕ}, c.in-Ok.ensures.within, c.hearing.invariant.short)
+    omega (
+      arith,
+      c.take.auto.into,
+      c.max.ensures,
+      c.min-room.ensures,
+      length-take {A = ℕ},
+      c.in-Ok.ensures.within,
+      c.hearing.invariant.short,
+    )
 
 pub hearing-smaller : goal.hearing-smaller
-hearing-smaller g c = omega (arith, c.if-n-eq0.false, c.if-count-eq-MAX_INPUT.false, c.hearing.invariant.short)
+hearing-smaller g c =
+    omega (arith, c.if-n-eq0.false, c.if-count-eq-MAX_INPUT.false, c.hearing.invariant.short)
 
 pub hearing-preserved : goal.hearing-preserved
 hearing-preserved g c =
     let size = length-take-le c.in-Ok.n c.take.new.into c.in-Ok.ensures.within in
     let some : 0 < c.in-Ok.n = omega (arith, c.if-n-eq0.false) in
     let room : c.hearing.count + c.in-Ok.n ≤ MAX_INPUT
-    = omega (arith, c.take.auto.into, c.max.ensures, c.min-room.ensures, length-take {A = ℕ}, c.in-Ok.ensures.within, c.hearing.invariant.short, c.if-count-eq-MAX_INPUT.false) in
+    = omega (
+      arith,
+      c.take.auto.into,
+      c.max.ensures,
+      c.min-room.ensures,
+      length-take {A = ℕ},
+      c.in-Ok.ensures.within,
+      c.hearing.invariant.short,
+      c.if-count-eq-MAX_INPUT.false,
+    ) in
     HasHeard-more _ _ _ _ _ _ _ _ (take c.in-Ok.n c.take.new.into) _ _ _ _ _ _ c.hearing.invariant
     c.in-Ok.ensures.bytes.0 size some room c.in-Ok.ensures.cause.later c.take.ensures.counted
     c.in-Ok-hear.ensures.jobs c.in-Ok-hear.ensures.rest c.in-Ok-hear.ensures.took c.in-Ok-hear.ensures.later
@@ -77,9 +106,25 @@ pub returns-in-Err-Fault-hear : goal.returns-in-Err-Fault-hear
 returns-in-Err-Fault-hear g c =
     let size = length-take-le c.in-Ok.n c.take.new.into c.in-Ok.ensures.within in
     let short : c.in-Ok.n ≤ MAX_PIECE
-    = omega (arith, c.take.auto.into, c.max.ensures, c.min-room.ensures, length-take {A = ℕ}, c.in-Ok.ensures.within) in
+    = omega (
+      arith,
+      c.take.auto.into,
+      c.max.ensures,
+      c.min-room.ensures,
+      length-take {A = ℕ},
+      c.in-Ok.ensures.within,
+    ) in
     let room : c.hearing.count + c.in-Ok.n ≤ MAX_INPUT
-    = omega (arith, c.take.auto.into, c.max.ensures, c.min-room.ensures, length-take {A = ℕ}, c.in-Ok.ensures.within, c.hearing.invariant.short, c.if-count-eq-MAX_INPUT.false) in
+    = omega (
+      arith,
+      c.take.auto.into,
+      c.max.ensures,
+      c.min-room.ensures,
+      length-take {A = ℕ},
+      c.in-Ok.ensures.within,
+      c.hearing.invariant.short,
+      c.if-count-eq-MAX_INPUT.false,
+    ) in
     served-cut _ _ _ _ _ _ (take c.in-Ok.n c.take.new.into) _ _ _ _ _ _ c.hearing.invariant
     c.in-Ok.ensures.bytes.0 size short room c.in-Ok.ensures.cause.later c.take.ensures.counted
     c.in-Err-Fault-hear.ensures.took c.in-Err-Fault-hear.ensures.later
@@ -89,9 +134,25 @@ pub returns-in-Err-Memory-hear : goal.returns-in-Err-Memory-hear
 returns-in-Err-Memory-hear g c =
     let size = length-take-le c.in-Ok.n c.take.new.into c.in-Ok.ensures.within in
     let short : c.in-Ok.n ≤ MAX_PIECE
-    = omega (arith, c.take.auto.into, c.max.ensures, c.min-room.ensures, length-take {A = ℕ}, c.in-Ok.ensures.within) in
+    = omega (
+      arith,
+      c.take.auto.into,
+      c.max.ensures,
+      c.min-room.ensures,
+      length-take {A = ℕ},
+      c.in-Ok.ensures.within,
+    ) in
     let room : c.hearing.count + c.in-Ok.n ≤ MAX_INPUT
-    = omega (arith, c.take.auto.into, c.max.ensures, c.min-room.ensures, length-take {A = ℕ}, c.in-Ok.ensures.within, c.hearing.invariant.short, c.if-count-eq-MAX_INPUT.false) in
+    = omega (
+      arith,
+      c.take.auto.into,
+      c.max.ensures,
+      c.min-room.ensures,
+      length-take {A = ℕ},
+      c.in-Ok.ensures.within,
+      c.hearing.invariant.short,
+      c.if-count-eq-MAX_INPUT.false,
+    ) in
     served-short _ _ _ _ _ _ (take c.in-Ok.n c.take.new.into) _ _ _ _ _ _ c.hearing.invariant
     c.in-Ok.ensures.bytes.0 size short room c.in-Ok.ensures.cause.later c.take.ensures.counted
     (c.in-Err-Memory-hear.ensures.memory (ap Err c.in-Err-Memory-hear.field-0-is))

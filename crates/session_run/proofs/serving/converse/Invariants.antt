@@ -9,8 +9,22 @@ invariant-hearing g l =
     let source = g.S.Source in
     let sink = g.K.Sink in
     HasHeard
-    (record { left = source.left l.fn.source; reads = source.faults l.fn.source; calls = source.calls l.fn.source; taken = sink.taken l.fn.sink; waiting = sink.waiting l.fn.sink; writes = sink.faults l.fn.sink })
-    (record { left = source.left l.source; reads = source.faults l.source; calls = source.calls l.source; taken = sink.taken l.sink; waiting = sink.waiting l.sink; writes = sink.faults l.sink })
+    (record {
+      left = source.left l.fn.source;
+      reads = source.faults l.fn.source;
+      calls = source.calls l.fn.source;
+      taken = sink.taken l.fn.sink;
+      waiting = sink.waiting l.fn.sink;
+      writes = sink.faults l.fn.sink;
+    })
+    (record {
+      left = source.left l.source;
+      reads = source.faults l.source;
+      calls = source.calls l.source;
+      taken = sink.taken l.sink;
+      waiting = sink.waiting l.sink;
+      writes = sink.faults l.sink;
+    })
     l.session l.rest.items l.count
 
 abbrev pub decreases-hearing : goal.decreases-hearing

@@ -1,4 +1,4 @@
-use Rattle.session_run.proofs.ServingLemmas.{ends-answer, ends-done, ends-limit, ends-read, ends-write, ends-memory, ends-never, ends-read_fault, ends-write_fault, ends-waits, ends-front}
+use Rattle.session_run.proofs.ServedClauseLemmas.{ends-answer, ends-done, ends-limit, ends-read, ends-write, ends-memory, ends-never, ends-read_fault, ends-write_fault, ends-waits, ends-front}
 use Rattle.session_run.proofs.serving.serve.Goals as goal
 
 pub returns-clause-answer : goal.returns-clause-answer

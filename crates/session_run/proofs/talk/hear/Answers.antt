@@ -9,15 +9,25 @@ pub returns-in_err-answer_line-clause-took : goal.returns-in_err-answer_line-cla
 returns-in_err-answer_line-clause-took g c =
     let start : Talk = record { jobs = c.args.session.now; rest = c.args.rest.now.items; text = [] } in
     let now = heard_all start (take c.loop-byte.byte-index c.args.bytes.now) in
-    let (more, parts) = Grows-line start c.args.bytes.now c.loop-byte.byte-index c.loop-byte-test.true c.if-byte-eq10.true in
-    Puts-stopped_after _ _ _ _ _ now.text (answer_to now.jobs now.rest) more parts c.from_residual.ensures.0 c.loop-byte.invariant.took
-    (rw (c.loop-byte.invariant.jobs, c.deref.ensures.value, c.loop-byte.invariant.rest) at c.in_err-answer_line.ensures.took)
+    let (more, parts) =
+    Grows-line start c.args.bytes.now c.loop-byte.byte-index c.loop-byte-test.true c.if-byte-eq10.true in
+    Puts-stopped_after _ _ _ _ _ now.text (answer_to now.jobs now.rest) more parts c.from_residual.ensures.0
+    c.loop-byte.invariant.took
+    (rw (
+      c.loop-byte.invariant.jobs,
+      c.deref.ensures.value,
+      c.loop-byte.invariant.rest,
+    ) at c.in_err-answer_line.ensures.took)
 
 pub returns-then-is_err-clause-took : goal.returns-then-is_err-clause-took
 returns-then-is_err-clause-took g c =
     let start : Talk = record { jobs = c.args.session.now; rest = c.args.rest.now.items; text = [] } in
-    let grows = Grows-at start c.args.bytes.now c.loop-byte.byte-index in
-    ((heard_all start (take c.loop-byte.byte-index c.args.bytes.now)).text, grows.more, grows.parts, c.loop-byte.invariant.took)
+    let grows = Grows-at start c.args.bytes.now c.loop-byte.byte-index in (
+      (heard_all start (take c.loop-byte.byte-index c.args.bytes.now)).text,
+      grows.more,
+      grows.parts,
+      c.loop-byte.invariant.took,
+    )
 
 pub loop-byte-preserved : goal.loop-byte-preserved
 loop-byte-preserved g c =

@@ -8,8 +8,12 @@ use Rattle.session_run.proofs.writer.put_list.Goals as goal
 
 pub returns-in_err-put_numbered_line-clause-took : goal.returns-in_err-put_numbered_line-clause-took
 returns-in_err-put_numbered_line-clause-took g c =
-    Puts-stopped _ _ _ _ (line (codes "jobs " ++ decimal (length c.args.session.now))) (flat_map state_text (map line_of c.args.session.now)) refl c.from_residual.ensures.0 (rw c.job_count.ensures at c.in_err-put_numbered_line.ensures.took)
+    Puts-stopped _ _ _ _ (line (codes "jobs " ++ decimal (length c.args.session.now)))
+    (flat_map state_text (map line_of c.args.session.now)) refl c.from_residual.ensures.0
+    (rw c.job_count.ensures at c.in_err-put_numbered_line.ensures.took)
 
 pub returns-clause-took : goal.returns-clause-took
 returns-clause-took g c =
-    Puts-more _ _ _ _ _ (line (codes "jobs " ++ decimal (length c.args.session.now))) (flat_map state_text (map line_of c.args.session.now)) refl (rw c.job_count.ensures at c.in_ok-put_numbered_line.ensures.took) c.put_states.ensures.took
+    Puts-more _ _ _ _ _ (line (codes "jobs " ++ decimal (length c.args.session.now)))
+    (flat_map state_text (map line_of c.args.session.now)) refl
+    (rw c.job_count.ensures at c.in_ok-put_numbered_line.ensures.took) c.put_states.ensures.took

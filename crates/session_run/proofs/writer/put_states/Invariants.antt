@@ -10,6 +10,7 @@ abbrev pub invariant-loop-k : goal.invariant-loop-k
 invariant-loop-k g l =
     let sink = g.K.Sink in
     record {
-      took : sink.taken l.sink ≡ append_known (sink.taken l.fn.sink) (flat_map state_text (take l.k (map line_of l.session)));
+      took : sink.taken l.sink
+          ≡ append_known (sink.taken l.fn.sink) (flat_map state_text (take l.k (map line_of l.session)));
       later : sink.faults l.fn.sink ≤ sink.faults l.sink;
     }

@@ -6,11 +6,14 @@ use Rattle.trace_format.proofs.text.put_term_line.Goals as goal
 
 pub returns-in_err-give_all-clause-took : goal.returns-in_err-give_all-clause-took
 returns-in_err-give_all-clause-took g c =
-    Puts-stopped _ _ _ _ c.args.keyword.now _ (append_assoc c.args.keyword.now c.args.term.now (10 ∷ [])) c.from_residual.ensures.0 c.in_err-give_all.ensures.took
+    Puts-stopped _ _ _ _ c.args.keyword.now _ (append_assoc c.args.keyword.now c.args.term.now (10 ∷ []))
+    c.from_residual.ensures.0 c.in_err-give_all.ensures.took
 
 pub returns-clause-took : goal.returns-clause-took
 returns-clause-took g c =
-    Puts-more _ _ _ _ _ c.args.keyword.now (line c.args.term.now) (append_assoc c.args.keyword.now c.args.term.now (10 ∷ [])) c.in_ok-give_all.ensures.took c.put_line.ensures.took
+    Puts-more _ _ _ _ _ c.args.keyword.now (line c.args.term.now)
+    (append_assoc c.args.keyword.now c.args.term.now (10 ∷ [])) c.in_ok-give_all.ensures.took
+    c.put_line.ensures.took
 
 pub returns-in_err-give_all-clause-waits : goal.returns-in_err-give_all-clause-waits
 returns-in_err-give_all-clause-waits g c =
@@ -20,4 +23,5 @@ returns-in_err-give_all-clause-waits g c =
 pub returns-clause-waits : goal.returns-clause-waits
 returns-clause-waits g c =
     waits-more _ _ _ _ c.args.keyword.now (line c.args.term.now)
-    (append_assoc c.args.keyword.now c.args.term.now (10 ∷ [])) c.in_ok-give_all.ensures.waits c.put_line.ensures.waits
+    (append_assoc c.args.keyword.now c.args.term.now (10 ∷ [])) c.in_ok-give_all.ensures.waits
+    c.put_line.ensures.waits

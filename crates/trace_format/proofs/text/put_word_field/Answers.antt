@@ -10,11 +10,13 @@ returns-in-empty-clause-took g c =
 
 pub returns-in_err-give_all-in-len1-up-clause-took : goal.returns-in_err-give_all-in-len1-up-clause-took
 returns-in_err-give_all-in-len1-up-clause-took g c =
-    Puts-stopped _ _ _ _ (32 ∷ []) _ (word_field-some c.args.word.now c.in-len1-up.len_at_least) c.from_residual.ensures.0 c.in_err-give_all-in-len1-up.ensures.took
+    Puts-stopped _ _ _ _ (32 ∷ []) _ (word_field-some c.args.word.now c.in-len1-up.len_at_least)
+    c.from_residual.ensures.0 c.in_err-give_all-in-len1-up.ensures.took
 
 pub returns-in_ok-give_all-in-len1-up-clause-took : goal.returns-in_ok-give_all-in-len1-up-clause-took
 returns-in_ok-give_all-in-len1-up-clause-took g c =
-    Puts-more _ _ _ _ _ (32 ∷ []) _ (word_field-some c.args.word.now c.in-len1-up.len_at_least) c.in_ok-give_all-in-len1-up.ensures.took c.put_word.ensures.took
+    Puts-more _ _ _ _ _ (32 ∷ []) _ (word_field-some c.args.word.now c.in-len1-up.len_at_least)
+    c.in_ok-give_all-in-len1-up.ensures.took c.put_word.ensures.took
 
 pub returns-in_err-give_all-in-len1-up-clause-waits :
     goal.returns-in_err-give_all-in-len1-up-clause-waits

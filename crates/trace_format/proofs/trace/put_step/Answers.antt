@@ -7,11 +7,15 @@ use Rattle.trace_format.proofs.trace.put_step.Goals as goal
 
 pub returns-in_err-put_numbered-clause-took : goal.returns-in_err-put_numbered-clause-took
 returns-in_err-put_numbered-clause-took g c =
-    Puts-stopped _ _ _ _ _ (line (codes " " ++ decimal c.args.step.1)) (step_line-parts c.args.step.0 c.args.step.1) c.from_residual.ensures.0 (rw c.from.ensures at c.in_err-put_numbered.ensures.took)
+    Puts-stopped _ _ _ _ _ (line (codes " " ++ decimal c.args.step.1))
+    (step_line-parts c.args.step.0 c.args.step.1) c.from_residual.ensures.0
+    (rw c.from.ensures at c.in_err-put_numbered.ensures.took)
 
 pub returns-clause-took : goal.returns-clause-took
 returns-clause-took g c =
-    Puts-more _ _ _ _ _ _ _ (step_line-parts c.args.step.0 c.args.step.1) (rw c.from.ensures at c.in_ok-put_numbered.ensures.took) (rw c.from-2.ensures at c.put_numbered_line.ensures.took)
+    Puts-more _ _ _ _ _ _ _ (step_line-parts c.args.step.0 c.args.step.1)
+    (rw c.from.ensures at c.in_ok-put_numbered.ensures.took)
+    (rw c.from-2.ensures at c.put_numbered_line.ensures.took)
 
 pub returns-in_err-put_numbered-clause-waits : goal.returns-in_err-put_numbered-clause-waits
 returns-in_err-put_numbered-clause-waits g c =

@@ -9,12 +9,15 @@ use Rattle.trace_format.proofs.trace.put_steps.Goals as goal
 
 pub returns-in_err-put_step-clause-took : goal.returns-in_err-put_step-clause-took
 returns-in_err-put_step-clause-took g c =
-    rw (flat_map-handle_line (g.A.Account.steps c.args.account.now)) (Puts-stopped_get _ _ _ _ handle_line _ c.loop-k.k _ c.step_at.ensures c.from_residual.ensures.0 c.loop-k.invariant.took c.in_err-put_step.ensures.took)
+    rw (flat_map-handle_line (g.A.Account.steps c.args.account.now))
+    (Puts-stopped_get _ _ _ _ handle_line _ c.loop-k.k _ c.step_at.ensures c.from_residual.ensures.0
+    c.loop-k.invariant.took c.in_err-put_step.ensures.took)
 
 pub loop-k-preserved : goal.loop-k-preserved
 loop-k-preserved g c =
     record {
-      took = append_known-get _ _ _ handle_line _ c.loop-k.k _ c.step_at.ensures c.loop-k.invariant.took c.in_ok-put_step.ensures.took;
+      took = append_known-get _ _ _ handle_line _ c.loop-k.k _ c.step_at.ensures c.loop-k.invariant.took
+          c.in_ok-put_step.ensures.took;
       waits = waits-get _ _ _ handle_line _ c.loop-k.k _ c.step_at.ensures c.loop-k.invariant.waits
           c.in_ok-put_step.ensures.waits;
       later = omega (arith, c.loop-k.invariant.later, c.in_ok-put_step.ensures.cause.later);
@@ -25,7 +28,8 @@ returns-clause-took g c =
     let steps = g.A.Account.steps c.args.account.now in
     let all : take c.loop-k.k steps ≡ steps = take_all c.loop-k.k steps
     (omega (arith, c.steps_done-k-end.ensures)) in
-    c.loop-k.invariant.took ∙ ap (append_known _) (ap (flat_map handle_line) all ∙ sym (flat_map-handle_line steps))
+    c.loop-k.invariant.took
+    ∙ ap (append_known _) (ap (flat_map handle_line) all ∙ sym (flat_map-handle_line steps))
 
 pub returns-in_err-put_step-clause-waits : goal.returns-in_err-put_step-clause-waits
 returns-in_err-put_step-clause-waits g c =

@@ -9,19 +9,25 @@ pub returns-in_err-put_verdict-clause-took : goal.returns-in_err-put_verdict-cla
 returns-in_err-put_verdict-clause-took g c =
     let verdict = line (codes "verdict " ++ verdict_word c.args.verdict) in
     let witness = line (codes "witness" ++ word_field (g.A.Account.current c.args.account.now)) in
-    Puts-stopped _ _ _ _ verdict (witness ++ line (codes "end")) (append_assoc verdict witness (line (codes "end"))) c.from_residual.ensures.0 c.in_err-put_verdict.ensures.took
+    Puts-stopped _ _ _ _ verdict (witness ++ line (codes "end"))
+    (append_assoc verdict witness (line (codes "end"))) c.from_residual.ensures.0
+    c.in_err-put_verdict.ensures.took
 
 pub returns-in_err-put_witness-clause-took : goal.returns-in_err-put_witness-clause-took
 returns-in_err-put_witness-clause-took g c =
     let verdict = line (codes "verdict " ++ verdict_word c.args.verdict) in
     let witness = line (codes "witness" ++ word_field (g.A.Account.current c.args.account.now)) in
-    Puts-stopped_after _ _ _ _ _ verdict witness (line (codes "end")) refl c.from_residual-in_err-put_witness.ensures.0 c.in_ok-put_verdict.ensures.took c.in_err-put_witness.ensures.took
+    Puts-stopped_after _ _ _ _ _ verdict witness (line (codes "end")) refl
+    c.from_residual-in_err-put_witness.ensures.0 c.in_ok-put_verdict.ensures.took
+    c.in_err-put_witness.ensures.took
 
 pub returns-clause-took : goal.returns-clause-took
 returns-clause-took g c =
     let verdict = line (codes "verdict " ++ verdict_word c.args.verdict) in
     let witness = line (codes "witness" ++ word_field (g.A.Account.current c.args.account.now)) in
-    Puts-more _ _ _ _ _ (verdict ++ witness) (line (codes "end")) refl (append_known-two _ _ _ verdict witness c.in_ok-put_verdict.ensures.took c.in_ok-put_witness.ensures.took) c.put_line.ensures.took
+    Puts-more _ _ _ _ _ (verdict ++ witness) (line (codes "end")) refl
+    (append_known-two _ _ _ verdict witness c.in_ok-put_verdict.ensures.took
+    c.in_ok-put_witness.ensures.took) c.put_line.ensures.took
 
 pub returns-in_err-put_verdict-clause-waits : goal.returns-in_err-put_verdict-clause-waits
 returns-in_err-put_verdict-clause-waits g c =

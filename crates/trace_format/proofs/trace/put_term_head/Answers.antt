@@ -9,21 +9,25 @@ returns-in_err-put_line-clause-took g c =
     let start = line (codes "braid-trace 1") in
     let left = line (codes "left-term " ++ c.args.left.now) in
     let right = line (codes "right-term " ++ c.args.right.now) in
-    Puts-stopped _ _ _ _ start (left ++ right) (append_assoc start left right) c.from_residual.ensures.0 c.in_err-put_line.ensures.took
+    Puts-stopped _ _ _ _ start (left ++ right) (append_assoc start left right) c.from_residual.ensures.0
+    c.in_err-put_line.ensures.took
 
 pub returns-in_err-put_term_line-clause-took : goal.returns-in_err-put_term_line-clause-took
 returns-in_err-put_term_line-clause-took g c =
     let start = line (codes "braid-trace 1") in
     let left = line (codes "left-term " ++ c.args.left.now) in
     let right = line (codes "right-term " ++ c.args.right.now) in
-    Puts-stopped_after _ _ _ _ _ start left right refl c.from_residual-in_err-put_term_line.ensures.0 c.in_ok-put_line.ensures.took c.in_err-put_term_line.ensures.took
+    Puts-stopped_after _ _ _ _ _ start left right refl c.from_residual-in_err-put_term_line.ensures.0
+    c.in_ok-put_line.ensures.took c.in_err-put_term_line.ensures.took
 
 pub returns-clause-took : goal.returns-clause-took
 returns-clause-took g c =
     let start = line (codes "braid-trace 1") in
     let left = line (codes "left-term " ++ c.args.left.now) in
     let right = line (codes "right-term " ++ c.args.right.now) in
-    Puts-more _ _ _ _ _ (start ++ left) right refl (append_known-two _ _ _ start left c.in_ok-put_line.ensures.took c.in_ok-put_term_line.ensures.took) c.put_term_line-2.ensures.took
+    Puts-more _ _ _ _ _ (start ++ left) right refl
+    (append_known-two _ _ _ start left c.in_ok-put_line.ensures.took c.in_ok-put_term_line.ensures.took)
+    c.put_term_line-2.ensures.took
 
 pub returns-in_err-put_line-clause-waits : goal.returns-in_err-put_line-clause-waits
 returns-in_err-put_line-clause-waits g c =

@@ -11,7 +11,8 @@ returns-in_err-put_head-clause-took g c =
     let head = head_text (words c.args.left.now c.args.right.now) in
     let steps = flat_map step_line (map handle_step (g.A.Account.steps c.args.account.now)) in
     let tail = tail_text c.args.verdict (g.A.Account.current c.args.account.now) in
-    Puts-stopped _ _ _ _ head (steps ++ tail) (append_assoc head steps tail) c.from_residual.ensures.0 c.in_err-put_head.ensures.took
+    Puts-stopped _ _ _ _ head (steps ++ tail) (append_assoc head steps tail) c.from_residual.ensures.0
+    c.in_err-put_head.ensures.took
 
 pub returns-clause-took : goal.returns-clause-took
 unfolding trace_text
@@ -19,7 +20,8 @@ returns-clause-took g c =
     let head = head_text (words c.args.left.now c.args.right.now) in
     let steps = flat_map step_line (map handle_step (g.A.Account.steps c.args.account.now)) in
     let tail = tail_text c.args.verdict (g.A.Account.current c.args.account.now) in
-    Puts-more _ _ _ _ _ head (steps ++ tail) (append_assoc head steps tail) c.in_ok-put_head.ensures.took c.put_body.ensures.took
+    Puts-more _ _ _ _ _ head (steps ++ tail) (append_assoc head steps tail) c.in_ok-put_head.ensures.took
+    c.put_body.ensures.took
 
 pub returns-in_err-put_head-clause-waits : goal.returns-in_err-put_head-clause-waits
 unfolding trace_text

@@ -7,17 +7,22 @@ use Rattle.trace_format.proofs.trace.put_witness.Goals as goal
 pub returns-in_err-give_all-clause-took : goal.returns-in_err-give_all-clause-took
 returns-in_err-give_all-clause-took g c =
     let letters = word_field (g.A.Account.current c.args.account.now) in
-    Puts-stopped _ _ _ _ (codes "witness") (letters ++ 10 ∷ []) refl c.from_residual.ensures.0 c.in_err-give_all.ensures.took
+    Puts-stopped _ _ _ _ (codes "witness") (letters ++ 10 ∷ []) refl c.from_residual.ensures.0
+    c.in_err-give_all.ensures.took
 
 pub returns-in_err-put_current-clause-took : goal.returns-in_err-put_current-clause-took
 returns-in_err-put_current-clause-took g c =
     let letters = word_field (g.A.Account.current c.args.account.now) in
-    Puts-stopped_after _ _ _ _ _ (codes "witness") letters (10 ∷ []) refl c.from_residual-in_err-put_current.ensures.0 c.in_ok-give_all.ensures.took c.in_err-put_current.ensures.took
+    Puts-stopped_after _ _ _ _ _ (codes "witness") letters (10 ∷ []) refl
+    c.from_residual-in_err-put_current.ensures.0 c.in_ok-give_all.ensures.took
+    c.in_err-put_current.ensures.took
 
 pub returns-clause-took : goal.returns-clause-took
 returns-clause-took g c =
     let letters = word_field (g.A.Account.current c.args.account.now) in
-    Puts-more _ _ _ _ _ (codes "witness" ++ letters) (10 ∷ []) refl (append_known-two _ _ _ (codes "witness") letters c.in_ok-give_all.ensures.took c.in_ok-put_current.ensures.took) c.give_all-2.ensures.took
+    Puts-more _ _ _ _ _ (codes "witness" ++ letters) (10 ∷ []) refl
+    (append_known-two _ _ _ (codes "witness") letters c.in_ok-give_all.ensures.took
+    c.in_ok-put_current.ensures.took) c.give_all-2.ensures.took
 
 pub returns-in_err-give_all-clause-waits : goal.returns-in_err-give_all-clause-waits
 returns-in_err-give_all-clause-waits g c =

@@ -8,4 +8,10 @@ invariant_of-self c =
     let inside = c.self.inside in
     Works-turned _ _ _ c.args.count _ c.self.invariant
     (c.turn.ensures.run (quotient inside.left inside.right) inside.handles inside.limit inside.turns)
-    (omega (arith, c.self.invariant.few_handles, c.saturating_add.ensures, c.min-self-inside.ensures, c.ranges.count.fits))
+    (omega (
+      arith,
+      c.self.invariant.few_handles,
+      c.saturating_add.ensures,
+      c.min-self-inside.ensures,
+      c.ranges.count.fits,
+    ))
