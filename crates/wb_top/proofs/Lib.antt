@@ -1,13 +1,2 @@
-pub mod BenchLemmas
-pub mod TextLemmas
-pub mod InputLemmas
-pub mod CommandLemmas
-pub mod AnswerLemmas
-pub mod TermAnswerLemmas
-pub mod TraceLengths
-pub mod AcceptedTraces
-pub mod TermVerdictLemmas
-pub mod VerdictLemmas
-pub mod SessionLemmas
-pub mod LimitFacts
-pub mod CommandFacts
+mod SessionLemmas
+mod ProgramLemmas

@@ -1,12 +1,3 @@
-pub mod Bench
-pub mod Benching
+pub mod Session
 pub mod Commands
-pub mod Inputs
-pub mod Reading
-pub mod Answer
-pub mod Reductions
-pub mod TermAnswers
-pub mod ExpansionAnswers
-pub mod Answers
-pub mod Outcomes
-pub mod Promises
+pub mod Program

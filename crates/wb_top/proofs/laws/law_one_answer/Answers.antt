@@ -1,12 +1,20 @@
-use Rattle.std.proofs.Common.{◌+◌, map, string_bytes}
-use Rattle.braid_word.specs.declared.TheConstants.{MAX_INDEX}
-use Rattle.wb_top.specs.Inputs.{two_words}
-use Rattle.wb_top.proofs.AnswerLemmas.{IsAnswer-one, compared_words-total}
+use Rattle.std.proofs.Common.{map, string_bytes, sym, ◌∙◌}
+use Rattle.wb_compare.proofs.CompareLemmas.{compare_meaning-total}
+use Rattle.wb_top.proofs.ProgramLemmas.{means-one_none, means-one_some}
 use Rattle.wb_top.proofs.laws.law_one_answer.Goals as goal
 
+pub returns-in_default-clause-one : goal.returns-in_default-clause-one
+returns-in_default-clause-one c =
+    λ a b. means-one_none (map string_bytes c.args.words.now) c.args.input.now a b
+    (sym c.in_default.is ∙ c.read_command.ensures)
+
+pub returns-in_default-clause-compares : goal.returns-in_default-clause-compares
+returns-in_default-clause-compares c = λ limits. compare_meaning-total limits c.args.input.now
+
 pub returns-clause-one : goal.returns-clause-one
-returns-clause-one c = IsAnswer-one (map string_bytes c.args.words.now) c.args.input.now
+returns-clause-one c =
+    λ a b. means-one_some (map string_bytes c.args.words.now) _ c.args.input.now a b
+    (sym c.in-Some.is ∙ c.read_command.ensures) c.law_sound.ensures
 
 pub returns-clause-compares : goal.returns-clause-compares
-returns-clause-compares c =
-    λ handles limit. compared_words-total handles limit (two_words (MAX_INDEX + 1) c.args.input.now)
+returns-clause-compares c = λ limits. compare_meaning-total limits c.args.input.now

@@ -1,0 +1,22 @@
+//! What the program's commands share: arguments, inputs, refusals, and a run over a source and a sink.
+#![tactic(auto)]
+
+mod args;
+mod fault;
+mod input;
+mod refusal;
+mod task;
+mod term_input;
+
+pub use args::Args;
+pub use fault::Fault;
+pub use input::{InputErr, read_one_word, read_two_words};
+pub use refusal::{Comes, Refusal, Written};
+pub use task::{Served, Task, run_task};
+pub use term_input::refuse;
+
+/// The most bytes of an input that is read whole.
+pub const MAX_INPUT: usize = 8_388_608;
+
+/// The most strands of a command that is given their number.
+pub const MAX_STRANDS: u32 = 64;

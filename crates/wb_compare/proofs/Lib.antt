@@ -1,0 +1,7 @@
+mod TraceLengths
+mod AcceptedTraces
+mod ReductionLemmas
+pub mod CompareLemmas
+mod TermsLemmas
+mod CheckLemmas
+mod SameLemmas

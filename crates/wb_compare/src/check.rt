@@ -1,0 +1,98 @@
+// The command `check`.
+ghost use Rattle.std.specs.Prelude.{◌≡◌, ◌∷◌, ◌++◌, codes};
+ghost use Rattle.wb_base.specs.Streams.{HasCause, Puts};
+ghost use Rattle.trace_format.specs.TraceText.{verdict_word};
+ghost use Rattle.wb_compare.specs.Check.{check_meaning, judged_answer, refused_text, why_word};
+
+use std::alloc::{AllocError, Global};
+use trace_check::{CheckErr, Why};
+use trace_format::Verdict;
+use wb_base::{Failed, Sink, Status, put_line, put_numbered};
+use wb_command::{Comes, Task, Written};
+
+/// `check`: tells whether a trace file is accepted.
+#[derive(Clone, Copy, Debug, PartialEq, Eq)]
+pub struct Check;
+
+/// What a trace file was found to be.
+#[derive(Clone, Copy, Debug, PartialEq, Eq)]
+pub enum Judged {
+    /// It is accepted, and has this verdict.
+    Accepted(Verdict),
+    /// It is refused at this line, counted from 1, for this cause.
+    Refused(u64, Why),
+}
+
+// A cause of refusal, after a space, as it is written.
+fn why_text(why: Why) -> &'static [u8]
+    ensures { result.now ≡ 32 ∷ why_word why }
+{
+    match why {
+        Why::Form => b" form",
+        Why::Header => b" header",
+        Why::Step => b" step",
+        Why::Long => b" long",
+        Why::Witness => b" witness",
+        Why::Sign => b" sign",
+        Why::Truncated => b" truncated",
+        Why::Extra => b" extra",
+    }
+}
+
+// Gives the line of a refused file.
+fn put_refused<K: Sink>(sink: &mut K, line: u64, why: Why) -> Result<(), Failed>
+    ensures took { Puts (K.taken sink.old) (K.taken sink.new) result (refused_text line why) }
+    ensures cause { HasCause (K.faults sink.old) (K.faults sink.new) result }
+{
+    put_numbered(sink, b"refused ", line)?;
+    put_line(sink, why_text(why))
+}
+
+// The line of an accepted file, without its LF.
+fn accepted_line(verdict: Verdict) -> &'static [u8]
+    ensures { result.now ≡ codes "accepted " ++ verdict_word verdict }
+{
+    match verdict {
+        Verdict::Less => b"accepted less",
+        Verdict::Equal => b"accepted equal",
+        Verdict::Greater => b"accepted greater",
+    }
+}
+
+impl Written for Judged {
+    ghost answer = { judged_answer };
+
+    fn status(&self) -> Status {
+        match self {
+            Judged::Accepted(_) => Status::Done,
+            Judged::Refused(..) => Status::Refused,
+        }
+    }
+
+    fn put<K: Sink>(&self, sink: &mut K) -> Result<(), Failed> {
+        match self {
+            Judged::Accepted(verdict) => put_line(sink, accepted_line(*verdict)),
+            Judged::Refused(line, why) => put_refused(sink, *line, *why),
+        }
+    }
+}
+
+impl Task for Check {
+    type Done = Judged;
+
+    ghost meaning = { λ command. check_meaning };
+
+    fn reads(&self) -> bool {
+        true
+    }
+
+    fn law_sound(&self) {}
+
+    fn perform(&self, alloc: Global, input: &[u8]) -> Result<Comes<Judged>, AllocError> {
+        match trace_check::check(alloc, input) {
+            Ok(checked) => Ok(Comes::Done(Judged::Accepted(checked.verdict()))),
+            Err(CheckErr::Refused { line, why }) => Ok(Comes::Done(Judged::Refused(line, why))),
+            Err(CheckErr::Memory) => Err(AllocError),
+        }
+    }
+}

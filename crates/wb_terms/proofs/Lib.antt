@@ -1,0 +1,6 @@
+mod EvalLemmas
+mod ValueLemmas
+mod ListingLemmas
+mod ExpandLemmas
+mod LaverCommandLemmas
+mod LimitFacts

@@ -1,5 +1,0 @@
--- The counter is of the ledger that is opened here.
-use Rattle.wb_top.proofs.tables.RowOf.put.Given as goal
-
-abbrev pub ghosts-put_counted : goal.ghosts-put_counted
-ghosts-put_counted g a = record { name = a.blank.name; parts = a.blank.parts }

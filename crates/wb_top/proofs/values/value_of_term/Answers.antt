@@ -1,8 +1,0 @@
-use Rattle.term_graph.specs.TermLists.{term_at}
-use Rattle.wb_top.proofs.TermAnswerLemmas.{valued-only}
-use Rattle.wb_top.proofs.values.value_of_term.Goals as goal
-
-pub returns-clause-outcome : goal.returns-clause-outcome
-returns-clause-outcome c =
-    valued-only c.args.exponent c.in_ok-table.table (term_at c.args.graph.now c.args.node) c.in_ok-value.value
-    c.in_ok-table.ensures.laver c.in_ok-value.ensures

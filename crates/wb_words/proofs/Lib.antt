@@ -1,0 +1,5 @@
+mod NormalCommandLemmas
+mod ActLemmas
+mod TallyLemmas
+mod BenchFacts
+mod LimitFacts

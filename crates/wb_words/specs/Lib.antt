@@ -1,0 +1,4 @@
+pub mod Normal
+pub mod Act
+pub mod Bench
+pub mod Benching
