@@ -6,9 +6,10 @@
 use Rattle.std.proofs.Common.{◌≡◌, ◌≢◌, ℕ, ◌+◌, ◌<◌, ◌≤◌, List, [], ◌∷◌, ◌++◌, take, drop, get_or, length, refl, ap, ◌∙◌, arith, Result, Ok, Err}
 use Rattle.std.proofs.lemmas.Bool.{ne_eqb}
 use Rattle.std.proofs.lemmas.List.{drop_more, drop_all}
+use Rattle.wb_base.specs.Memory.{FailsAs}
 use Rattle.braid_word.specs.Words.{Letter, letter}
 use Rattle.braid_word.specs.LetterNotation.{letter_of_byte}
-use Rattle.braid_word.specs.Notation.{letters_from, letters_word_of, in_front, not_too_long, Fails, Gives}
+use Rattle.braid_word.specs.Notation.{letters_from, letters_word_of, in_front, not_too_long, fault_in, Gives}
 use Rattle.braid_word.specs.declared.TheConstants.{MAX_LETTERS}
 use Rattle.braid_word.specs.declared.reader.WordErr.{WordErr}
 use Rattle.braid_word.proofs.KeptLemmas.{IsKept, IsKept-none, IsKept-on, IsKept-letter, Fails-kept, Gives-kept}
@@ -109,7 +110,7 @@ pub Fails-byte
     → bytes < length line
     → next line bytes ≢ 32
     → letter_of_byte (place + 1) (next line bytes) ≡ Err e
-    → Fails e (letters_word_of line)
+    → FailsAs (fault_in e) (letters_word_of line)
 unfolding letters_word_of
 Fails-byte is within other fault = Fails-kept (so_far-byte is within other fault)
 

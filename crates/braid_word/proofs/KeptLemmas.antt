@@ -8,8 +8,9 @@
 use Rattle.std.proofs.Common.{◌≡◌, ℕ, ◌+◌, ◌<◌, ◌≤◌, true, false, List, [], ◌∷◌, ◌++◌, take, length, refl, ap, sym, ◌∙◌, subst, append_assoc, length-append, ltb, arith, Result, Ok, Err}
 use Rattle.std.proofs.lemmas.Bool.{lt-ltb, le-ltb}
 use Rattle.std.proofs.lemmas.List.{append-nil, take-append-le, take_all, length-take}
+use Rattle.wb_base.specs.Memory.{FailsAs}
 use Rattle.braid_word.specs.Words.{Letter}
-use Rattle.braid_word.specs.Notation.{in_front, not_too_long, Fails, Gives}
+use Rattle.braid_word.specs.Notation.{in_front, not_too_long, fault_in, Gives}
 use Rattle.braid_word.specs.declared.TheConstants.{MAX_LETTERS}
 use Rattle.braid_word.specs.declared.reader.WordErr.{WordErr}
 use Rattle.braid_word.specs.declared.reader.WordErr.TheVariants.{BadLetter, BadIndex, TooLong, Memory}
@@ -100,7 +101,7 @@ IsKept-letter {left = left} {x = x} so_far keeps =
 -- ---- The answer ----
 
 -- a fault that is read may be answered
-Fails-fault : (e : WordErr) (read : Result (List Letter) WordErr) → read ≡ Err e → Fails e read
+Fails-fault : (e : WordErr) (read : Result (List Letter) WordErr) → read ≡ Err e → FailsAs (fault_in e) read
 Fails-fault (BadLetter place) read is = is
 Fails-fault (BadIndex place) read is = is
 Fails-fault (TooLong count) read is = is
@@ -110,7 +111,7 @@ Fails-fault Memory read is = tt
 pub Fails-kept
     : {read : Result (List Letter) WordErr} {count : ℕ} {kept : List Letter} {e : WordErr}
     → IsKept read (Err e) count kept
-    → Fails e (not_too_long read)
+    → FailsAs (fault_in e) (not_too_long read)
 Fails-kept {read} {e = e} so_far =
     Fails-fault e (not_too_long read) (ap not_too_long so_far.is)
 

@@ -14,9 +14,10 @@ use Rattle.std.specs.Str.Parse.{AllDigits}
 use Rattle.std.proofs.lemmas.Bool.{and_parts, eqb-true}
 use Rattle.std.proofs.lemmas.List.{drop_more, drop_all}
 use Rattle.wb_base.proofs.NumberLemmas.{AllDigits-list_all}
+use Rattle.wb_base.specs.Memory.{FailsAs}
 use Rattle.braid_word.specs.Words.{Letter}
 use Rattle.braid_word.specs.NumberNotation.{Piece, placed_from, parts_of, is_numeral, letter_of}
-use Rattle.braid_word.specs.Notation.{is_piece, letters_of, in_front, not_too_long, word_by, strict_word_of, Fails, Gives}
+use Rattle.braid_word.specs.Notation.{is_piece, letters_of, in_front, not_too_long, word_by, strict_word_of, fault_in, Gives}
 use Rattle.braid_word.specs.declared.TheConstants.{MAX_LETTERS}
 use Rattle.braid_word.specs.declared.reader.WordErr.{WordErr}
 use Rattle.braid_word.proofs.KeptLemmas.{IsKept, IsKept-none, IsKept-on, IsKept-letter, Fails-kept, Gives-kept}
@@ -202,7 +203,7 @@ pub Fails-part
     → IsNext line parts part
     → is_piece strict part ≡ true
     → letter_at place part ≡ Err e
-    → Fails e (word_by strict line)
+    → FailsAs (fault_in e) (word_by strict line)
 unfolding word_by
 Fails-part is next some fault = Fails-kept (so_far-next is next some fault)
 

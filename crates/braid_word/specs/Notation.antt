@@ -15,8 +15,9 @@
 --   IsReadable w            w can be read
 --   word_text w             the strict spelling of w
 --   Gives result read       what a reader answered is what is read, unless memory ran out
-use Rattle.std.specs.Prelude.{◌≡◌, ℕ, ◌+◌, ◌≤◌, ◌||◌, ◌==◌, nat_lt, Bool, not, if◌then◌else◌, List, [], ◌∷◌, length, map, filter, Result, Ok, Err}
+use Rattle.std.specs.Prelude.{◌≡◌, ℕ, ◌+◌, ◌≤◌, ◌||◌, ◌==◌, nat_lt, Bool, not, if◌then◌else◌, List, [], ◌∷◌, length, map, filter, Option, Some, None, Result, Ok, Err}
 use Rattle.std.specs.List.{join_with_byte}
+use Rattle.wb_base.specs.Memory.{UnlessMemory}
 use Rattle.wb_base.specs.Numbers.{signed_text}
 use Rattle.braid_word.specs.Words.{Letter, IsOn}
 use Rattle.braid_word.specs.NumberNotation.{Piece, parts_of, pieces_of, letter_of}
@@ -83,17 +84,16 @@ pub record IsReadable (w : List Letter) : Type 0 where
   pub short : length w ≤ MAX_LETTERS
   pub on : IsOn (MAX_INDEX + 1) w
 
--- Want of memory is free; any other answer is what is read.
-abbrev pub Fails : WordErr → Result (List Letter) WordErr → Type 0
-Fails Memory read = Unit {0}
-Fails (BadLetter place) read = read ≡ Err (BadLetter place)
-Fails (BadIndex place) read = read ≡ Err (BadIndex place)
-Fails (TooLong count) read = read ≡ Err (TooLong count)
+-- The fault of the line that an error tells, if it tells one.
+abbrev pub fault_in : WordErr → Option WordErr
+fault_in Memory = None
+fault_in (BadLetter place) = Some (BadLetter place)
+fault_in (BadIndex place) = Some (BadIndex place)
+fault_in (TooLong count) = Some (TooLong count)
 
 -- What a reader answered is what is read, unless memory ran out.
 abbrev pub Gives : Result (List Letter) WordErr → Result (List Letter) WordErr → Type 0
-Gives (Ok w) read = read ≡ Ok w
-Gives (Err e) read = Fails e read
+Gives result read = UnlessMemory (λ (w : List Letter). w) fault_in result read
 
 -- ---- Spelling ----
 

@@ -17,6 +17,7 @@ use Rattle.std.specs.Prelude.{◌≡◌, ℕ, ◌+◌, ◌-◌, ◌==◌, ◌&&�
 use Rattle.std.specs.Bool.{beq}
 use Rattle.std.specs.Cmp.Lexicographic.{pointwise}
 use Rattle.std.specs.Str.{bytes_eq}
+use Rattle.wb_base.specs.Memory.{UnlessMemory}
 use Rattle.wb_base.specs.Streams.{one_more}
 use Rattle.wb_base.specs.Lines.{cut}
 use Rattle.braid_word.specs.Words.{Letter, opposite, quotient}
@@ -277,11 +278,11 @@ walk k now (line ∷ ls) rest = walk_on k (kept now line) (λ next. walk (one_mo
 unfoldable pub checked_of : List ℕ → Result Claim (ℕ × Why)
 checked_of bytes = walk 1 due.start (cut bytes).0 (cut bytes).1
 
--- What a checker answered is what the file is, unless memory ran out.
-abbrev pub Fails : CheckErr → Result Claim (ℕ × Why) → Type 0
-Fails (check_errors.Refused line why) file = file ≡ Err (line, why)
-Fails check_errors.Memory file = Unit {0}
+-- The refusal that an error tells, if it tells one.
+abbrev pub refusal_in : CheckErr → Option (ℕ × Why)
+refusal_in check_errors.Memory = None
+refusal_in (check_errors.Refused line why) = Some (line, why)
 
+-- What a checker answered is what the file is, unless memory ran out.
 abbrev pub Gives : Result Claim CheckErr → Result Claim (ℕ × Why) → Type 0
-Gives (Ok claim) file = file ≡ Ok claim
-Gives (Err e) file = Fails e file
+Gives result file = UnlessMemory (λ (claim : Claim). claim) refusal_in result file

@@ -5,7 +5,8 @@
 --   stop_of error           why a line isn't kept that wasn't read
 --   Keeps result kept       what was answered is what is due, unless memory ran out
 --   StepsTo result stepped  the same of the word that a step leads to
-use Rattle.std.specs.Prelude.{◌≡◌, List, Result, Ok, Err}
+use Rattle.std.specs.Prelude.{List, Option, Some, None, Result}
+use Rattle.wb_base.specs.Memory.{UnlessMemory}
 use Rattle.braid_word.specs.Words.{Letter}
 use Rattle.trace_format.specs.declared.line.LineErr.{LineErr}
 use Rattle.trace_format.specs.declared.line.LineErr.TheVariants as line_errors
@@ -39,14 +40,13 @@ stop_of line_errors.Long = Refused (cause_of line_errors.Long)
 stop_of line_errors.Unknown = Refused (cause_of line_errors.Unknown)
 stop_of line_errors.Form = Refused (cause_of line_errors.Form)
 
-abbrev pub Fails : {X : Type 0} → Stop → Result X Why → Type 0
-Fails Memory kept = Unit {0}
-Fails (Refused why) kept = kept ≡ Err why
+-- The cause that an error tells, if it tells one.
+abbrev pub why_of : Stop → Option Why
+why_of Memory = None
+why_of (Refused why) = Some why
 
 abbrev pub Keeps : Result Due Stop → Result State Why → Type 0
-Keeps (Ok next) kept = kept ≡ Ok (state_of next)
-Keeps (Err e) kept = Fails e kept
+Keeps result kept = UnlessMemory state_of why_of result kept
 
 abbrev pub StepsTo : Result (List Letter) Stop → Result (List Letter) Why → Type 0
-StepsTo (Ok w) stepped = stepped ≡ Ok w
-StepsTo (Err e) stepped = Fails e stepped
+StepsTo result stepped = UnlessMemory (λ (w : List Letter). w) why_of result stepped

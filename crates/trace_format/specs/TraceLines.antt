@@ -17,6 +17,7 @@
 use Rattle.std.specs.Prelude.{◌≡◌, ℕ, ◌+◌, ◌<◌, ◌≤◌, ◌&&◌, ◌||◌, ◌==◌, nat_lt, if◌then◌else◌, List, [], ◌∷◌, ◌++◌, length, drop, codes, Option, Some, None, Result, Ok, Err}
 use Rattle.std.specs.List.{before_first, AllByRecursion}
 use Rattle.std.specs.Str.{bytes_eq}
+use Rattle.wb_base.specs.Memory.{UnlessMemory}
 use Rattle.wb_base.specs.Numbers.{number_at}
 use Rattle.braid_word.specs.Words.{Letter, IsOn}
 use Rattle.braid_word.specs.Notation.{strict_word_of, IsReadable}
@@ -200,27 +201,24 @@ line_by (Some words.Finish) rest = if length rest == 0 then Ok said.finish else 
 unfoldable pub line_of : List ℕ → Result Said LineErr
 line_of line = line_by (keyword_by (keyword_of line)) (behind_keyword line)
 
--- Want of memory is free; any other answer is what is read.
-abbrev pub Fails : {X : Type 0} → LineErr → Result X LineErr → Type 0
-Fails Memory read = Unit {0}
-Fails Unknown read = read ≡ Err Unknown
-Fails Form read = read ≡ Err Form
-Fails Long read = read ≡ Err Long
+-- The fault of the line that an error tells, if it tells one.
+abbrev pub fault_in : LineErr → Option LineErr
+fault_in Memory = None
+fault_in Unknown = Some Unknown
+fault_in Form = Some Form
+fault_in Long = Some Long
 
 -- What a reader answered is what is read, unless memory ran out. No public clause cites it.
 abbrev pub Gives : {X : Type 0} → Result X LineErr → Result X LineErr → Type 0
-Gives (Ok x) read = read ≡ Ok x
-Gives (Err e) read = Fails e read
+Gives {X} result read = UnlessMemory (λ (x : X). x) fault_in result read
 
 -- The same of a term, which a reader gives as a tree. No public clause cites it.
 abbrev pub ReadsTerm : Result Tree LineErr → Result Term LineErr → Type 0
-ReadsTerm (Ok tree) read = read ≡ Ok (as_term (written tree))
-ReadsTerm (Err e) read = Fails e read
+ReadsTerm result read = UnlessMemory (λ (tree : Tree). as_term (written tree)) fault_in result read
 
 -- The same of what a line says.
 abbrev pub Reads : Result Line LineErr → Result Said LineErr → Type 0
-Reads (Ok l) read = read ≡ Ok (said_by l)
-Reads (Err e) read = Fails e read
+Reads result read = UnlessMemory said_by fault_in result read
 
 -- ---- The text of a line ----
 

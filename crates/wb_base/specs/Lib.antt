@@ -6,3 +6,4 @@ pub mod StreamStates
 pub mod SinkRoom
 pub mod Status
 pub mod Names
+pub mod Memory

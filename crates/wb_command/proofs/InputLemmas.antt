@@ -5,6 +5,7 @@
 -- strands (`two_words-more_strands`).
 use Rattle.std.proofs.Common.{◌≡◌, ℕ, ◌+◌, ◌<◌, ◌≤◌, arith, List, [], ◌∷◌, Option, Some, None, Result, Ok, Err, refl, sym, ap, subst, ◌∙◌}
 use Rattle.std.specs.Result.{IsErrAnd}
+use Rattle.wb_base.specs.Memory.{FailsAs}
 use Rattle.wb_base.specs.Lines.{lines_of}
 use Rattle.braid_word.specs.Words.{Letter, IsOn, first_outside}
 use Rattle.braid_word.specs.Notation.{word_of, IsReadable}
@@ -17,7 +18,7 @@ use Rattle.wb_command.specs.declared.fault.Fault.TheVariants.{Lines}
 use Rattle.wb_command.specs.declared.input.InputErr.{InputErr}
 use Rattle.wb_command.specs.declared.input.InputErr.TheVariants as input_errors
 use Rattle.wb_command.specs.Inputs.{unless_outside, word_by, word_on, only_word, one_word_of, one_word, second_word, first_word, two_words_of, two_words}
-use Rattle.wb_command.specs.Reading.{Fails, Reads}
+use Rattle.wb_command.specs.Reading.{fault_in, Reads}
 
 -- ---- Words on so many strands ----
 
@@ -185,10 +186,10 @@ two_words-more_strands strands more input u v few is = go (lines_of input) is
 Reads-failed
     : {X : Type 0} (result : Result X InputErr) (e : InputErr) (words : Result X Fault)
     → IsErrAnd result (λ g. g ≡ e)
-    → Fails e words
+    → FailsAs (fault_in e) words
     → Reads result words
 Reads-failed (Ok x) e words goes fails = absurd goes
-Reads-failed (Err g) e words goes fails = subst (λ g. Fails g words) (sym goes) fails
+Reads-failed (Err g) e words goes fails = subst (λ g. FailsAs (fault_in g) words) (sym goes) fails
 
 -- ---- One word ----
 
@@ -223,8 +224,8 @@ module _ (strands : ℕ) (input : List ℕ) (all : List (List ℕ)) (are : all �
 -- a first word that isn't read
 Fails-only_word
     : (e : InputErr) (rest : List (List ℕ)) (read : Result (List Letter) Fault)
-    → Fails e read
-    → Fails e (only_word rest read)
+    → FailsAs (fault_in e) read
+    → FailsAs (fault_in e) (only_word rest read)
 Fails-only_word input_errors.Memory rest read fails = tt
 Fails-only_word (input_errors.Fault fault) rest read fails = ap (only_word rest) fails
 
@@ -233,13 +234,13 @@ pub one_word-failed
     (result : Result (List Letter) InputErr)
     → all ≡ lines_of input
     → all ≡ a ∷ rest
-    → Fails e (word_on strands 1 a)
+    → FailsAs (fault_in e) (word_on strands 1 a)
     → IsErrAnd result (λ g. g ≡ e)
     → Reads result (one_word strands input)
 one_word-failed strands input all rest a e result are first fails goes =
     let whole = one_word-first strands input all are a rest first in
     Reads-failed result e (one_word strands input) goes
-    (subst (Fails e) (sym whole) (Fails-only_word e rest (word_on strands 1 a) fails))
+    (subst (FailsAs (fault_in e)) (sym whole) (Fails-only_word e rest (word_on strands 1 a) fails))
 
 -- one that is, with no line left
 pub only_word-Ok
@@ -262,8 +263,8 @@ only_word-more rest more b read w is some = rw (is, some) refl
 -- a first word that isn't read
 Fails-first_word
     : (e : InputErr) (strands : ℕ) (rest : List (List ℕ)) (read : Result (List Letter) Fault)
-    → Fails e read
-    → Fails e (first_word strands rest read)
+    → FailsAs (fault_in e) read
+    → FailsAs (fault_in e) (first_word strands rest read)
 Fails-first_word input_errors.Memory strands rest read fails = tt
 Fails-first_word (input_errors.Fault fault) strands [] read fails = ap (first_word strands []) fails
 Fails-first_word (input_errors.Fault fault) strands (a ∷ rest) read fails =
@@ -272,8 +273,8 @@ Fails-first_word (input_errors.Fault fault) strands (a ∷ rest) read fails =
 -- a second word that isn't read
 Fails-second_word
     : (e : InputErr) (u : List Letter) (rest : List (List ℕ)) (read : Result (List Letter) Fault)
-    → Fails e read
-    → Fails e (second_word u rest read)
+    → FailsAs (fault_in e) read
+    → FailsAs (fault_in e) (second_word u rest read)
 Fails-second_word input_errors.Memory u rest read fails = tt
 Fails-second_word (input_errors.Fault fault) u rest read fails = ap (second_word u rest) fails
 
@@ -282,13 +283,13 @@ pub two_words-failed
     (result : Result (List Letter × List Letter) InputErr)
     → all ≡ lines_of input
     → all ≡ a ∷ rest
-    → Fails e (word_on strands 1 a)
+    → FailsAs (fault_in e) (word_on strands 1 a)
     → IsErrAnd result (λ g. g ≡ e)
     → Reads result (two_words strands input)
 two_words-failed strands input all rest a e result are first fails goes =
     let whole = two_words-first strands input all are a rest first in
     Reads-failed result e (two_words strands input) goes
-    (subst (Fails e) (sym whole) (Fails-first_word e strands rest (word_on strands 1 a) fails))
+    (subst (FailsAs (fault_in e)) (sym whole) (Fails-first_word e strands rest (word_on strands 1 a) fails))
 
 -- one that is, with no line left
 pub first_word-none
@@ -332,11 +333,11 @@ pub two_words-failed_second
     → all ≡ a ∷ rest
     → rest ≡ b ∷ more
     → word_on strands 1 a ≡ Ok u
-    → Fails e (word_on strands 2 b)
+    → FailsAs (fault_in e) (word_on strands 2 b)
     → IsErrAnd result (λ g. g ≡ e)
     → Reads result (two_words strands input)
 two_words-failed_second strands input all rest more a b u e result are first next is fails goes =
     let whole = two_words-first strands input all are a rest first in
     let then = first_word-more strands rest more b (word_on strands 1 a) u is next in
     Reads-failed result e (two_words strands input) goes
-    (subst (Fails e) (sym (whole ∙ then)) (Fails-second_word e u more (word_on strands 2 b) fails))
+    (subst (FailsAs (fault_in e)) (sym (whole ∙ then)) (Fails-second_word e u more (word_on strands 2 b) fails))
