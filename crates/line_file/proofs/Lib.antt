@@ -1,0 +1,5 @@
+pub mod CutLemmas
+pub mod WalkLemmas
+pub mod RefusalLaws
+pub mod PieceLaws
+pub mod SourceLemmas

@@ -1,0 +1,6 @@
+pub mod Formats
+pub mod FirstRefusal
+pub mod Pieces
+pub mod Keeping
+pub mod Held
+pub mod Sources
