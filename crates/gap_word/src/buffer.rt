@@ -1,24 +1,32 @@
-// Left lies in two parts, so that an item near its end is removed at the cost of those after it: `low`,
-// and then `high`. Right lies the other way round, its first item last.
-ghost use Rattle.std.specs.Prelude.{◌≡◌, ◌+◌, ◌-◌, ◌<◌, ◌≤◌, false, [], ◌∷◌, ◌++◌, length, take, drop, slice_get, vec_capacity, IfOk, IsTrue, MatchOption};
-ghost use Rattle.std.specs.VecDeque.{deque_capacity};
+// All items lie in one row of places: the low ones of left, a hole, the high ones, room between, and right.
+// The hole is where the last item was removed, so that removing the next one near it costs their distance.
+ghost use Rattle.std.specs.Prelude.{◌≡◌, ◌+◌, ◌-◌, ◌<◌, ◌≤◌, false, [], ◌∷◌, ◌++◌, length, take, drop, slice_get, IfOk, IsTrue, MatchOption};
 ghost use Rattle.std.specs.List.{remove};
 ghost use Rattle.gap_word.specs.Gap.{gap, room, PopsLeft, PopsRight, StepsLeft, StepsRight};
 ghost use Rattle.gap_word.specs.declared.TheConstants.{MAX_ROOM};
 
+use crate::block::Block;
+use crate::held::Places;
+use crate::places::{free_places, free_room, get, open, put, shift};
 use std::alloc::{AllocError, Global};
-use std::collections::VecDeque;
+use std::fmt;
 use std::marker::Model;
+use std_alloc::room::may_hold;
 
 /// A buffer with a cursor. Its items are seen as two lists, left and right of the cursor.
 ///
 /// All memory is taken when it is made: no other call takes any.
-#[derive(Debug, Drop)]
 pub struct GapWord<T: Copy> {
-    low: Vec<T>,
-    high: VecDeque<T>,
-    right: Vec<T>,
-    spare: usize,
+    room: Option<Block<T, Global>>, // before the first push
+    row: Option<Places<T>>, // from then on
+    // Left is below low and from high to end, right is from start on.
+    low: usize,
+    high: usize,
+    end: usize,
+    start: usize,
+    cells: usize, // how many places there are
+    rest: usize, // how many there will be, before the first push
+    alloc: Global,
 }
 
 impl<T: Copy> Model for GapWord<T> {
@@ -28,15 +36,39 @@ impl<T: Copy> Model for GapWord<T> {
 
     ghost coded = { gap_code T.code };
 
-    ghost use Rattle.std.specs.Prelude.{◌≤◌, ◌++◌, vec_capacity, reverse};
-    ghost use Rattle.std.specs.VecDeque.{deque_capacity};
-    ghost use Rattle.gap_word.specs.Gap.{gap, room};
-    ghost use Rattle.gap_word.specs.Parts.{HasRoom};
+    ghost use Rattle.gap_word.specs.Parts.{seen, items_of, IsBuffer};
 
-    ghost view = { λ g. gap (g.low.items ++ g.high.items) (reverse g.right.items) g.spare };
+    ghost view = { λ g. seen (items_of g.row) g.low g.high g.end g.start g.rest };
 
-    ghost invariant = { λ g. HasRoom g.low.items g.high.items g.right.items g.spare (vec_capacity g.low)
-        (deque_capacity g.high) (vec_capacity g.right) };
+    ghost invariant = { λ g. IsBuffer g.alloc g.room g.row g.low g.high g.end g.start g.cells g.rest };
+}
+
+impl<T: Copy> fmt::Debug for GapWord<T> {
+    fn fmt<W: fmt::Write>(&self, f: &mut fmt::Formatter<W>) -> fmt::Result {
+        f.debug_struct("GapWord")
+            .field("left_len", &self.left_len())
+            .field("right_len", &self.right_len())
+            .field("spare", &self.spare())
+            .finish()
+    }
+}
+
+impl<T: Copy> Drop for GapWord<T> {
+    fn drop(self) {
+        let GapWord {
+            room,
+            row,
+            low: _,
+            high: _,
+            end: _,
+            start: _,
+            cells: _,
+            rest,
+            alloc,
+        } = self;
+        free_places(row, &alloc);
+        free_room(room, &alloc, rest);
+    }
 }
 
 impl<T: Copy> GapWord<T> {
@@ -45,11 +77,20 @@ impl<T: Copy> GapWord<T> {
         requires { n ≤ MAX_ROOM }
         ensures { IfOk result (λ g. g ≡ gap [] [] n) }
     {
+        if !may_hold::<T>(n) {
+            return Err(AllocError);
+        }
+        let room = Block::new(&alloc, n)?;
         Ok(GapWord {
-            low: Vec::with_capacity(alloc, n)?,
-            high: VecDeque::with_capacity(alloc, n)?,
-            right: Vec::with_capacity(alloc, n)?,
-            spare: n,
+            room: Some(room),
+            row: None,
+            low: 0,
+            high: 0,
+            end: 0,
+            start: 0,
+            cells: 0,
+            rest: n,
+            alloc,
         })
     }
 
@@ -58,8 +99,24 @@ impl<T: Copy> GapWord<T> {
         requires { 0 < self.old.spare }
         ensures { self.new ≡ gap (self.old.left ++ item ∷ []) self.old.right (self.old.spare - 1) }
     {
-        put_last(&mut self.low, &mut self.high, item);
-        self.spare -= 1;
+        if self.end < self.start {
+            put(&mut self.row, self.end, item);
+            self.end += 1;
+        } else if 0 < self.rest {
+            open(&mut self.room, &mut self.row, self.rest);
+            self.cells = self.rest;
+            self.start = self.rest;
+            self.rest = 0;
+            put(&mut self.row, self.end, item);
+            self.end += 1;
+        } else {
+            let count = self.end - self.high;
+            shift(&mut self.row, self.high, self.low, count);
+            self.high = self.low;
+            self.end = self.low + count;
+            put(&mut self.row, self.end, item);
+            self.end += 1;
+        }
     }
 
     /// Puts an item in front of right.
@@ -67,8 +124,23 @@ impl<T: Copy> GapWord<T> {
         requires { 0 < self.old.spare }
         ensures { self.new ≡ gap self.old.left (item ∷ self.old.right) (self.old.spare - 1) }
     {
-        self.right.push_reserved(item);
-        self.spare -= 1;
+        if self.end < self.start {
+            self.start -= 1;
+            put(&mut self.row, self.start, item);
+        } else if 0 < self.rest {
+            open(&mut self.room, &mut self.row, self.rest);
+            self.cells = self.rest;
+            self.start = self.rest - 1;
+            self.rest = 0;
+            put(&mut self.row, self.start, item);
+        } else {
+            let count = self.end - self.high;
+            shift(&mut self.row, self.high, self.low, count);
+            self.high = self.low;
+            self.end = self.low + count;
+            self.start -= 1;
+            put(&mut self.row, self.start, item);
+        }
     }
 
     /// Takes the last item of left out. `None` exactly where left is empty.
@@ -76,11 +148,17 @@ impl<T: Copy> GapWord<T> {
         ensures { MatchOption result ((self.old.left ≡ []) × (self.new ≡ self.old))
             (λ x. PopsLeft self.old x self.new) }
     {
-        let Some(item) = take_last(&mut self.low, &mut self.high) else {
-            return None;
-        };
-        self.spare += 1;
-        Some(item)
+        if self.high < self.end {
+            self.end -= 1;
+            Some(get(&self.row, self.end))
+        } else if 0 < self.low {
+            self.low -= 1;
+            self.high = self.low;
+            self.end = self.low;
+            Some(get(&self.row, self.low))
+        } else {
+            None
+        }
     }
 
     /// Takes the first item of right out. `None` exactly where right is empty.
@@ -88,9 +166,13 @@ impl<T: Copy> GapWord<T> {
         ensures item { MatchOption result ((self.old.right ≡ []) × (self.new ≡ self.old))
             (λ x. PopsRight self.old x self.new) }
     {
-        let item = self.right.pop()?;
-        self.spare += 1;
-        Some(item)
+        if self.start < self.cells {
+            let item = get(&self.row, self.start);
+            self.start += 1;
+            Some(item)
+        } else {
+            None
+        }
     }
 
     /// Moves the last item of left to the front of right. False exactly where left is empty.
@@ -98,11 +180,23 @@ impl<T: Copy> GapWord<T> {
         ensures moves { IsTrue result → StepsLeft self.old self.new }
         ensures stays { result ≡ false → (self.old.left ≡ []) × (self.new ≡ self.old) }
     {
-        let Some(item) = take_last(&mut self.low, &mut self.high) else {
-            return false;
-        };
-        self.right.push_reserved(item);
-        true
+        if self.high < self.end {
+            self.end -= 1;
+            self.start -= 1;
+            let item = get(&self.row, self.end);
+            put(&mut self.row, self.start, item);
+            true
+        } else if 0 < self.low {
+            self.low -= 1;
+            self.high = self.low;
+            self.end = self.low;
+            self.start -= 1;
+            let item = get(&self.row, self.low);
+            put(&mut self.row, self.start, item);
+            true
+        } else {
+            false
+        }
     }
 
     /// Moves the first item of right to the end of left. False exactly where right is empty.
@@ -110,21 +204,27 @@ impl<T: Copy> GapWord<T> {
         ensures moves { IsTrue result → StepsRight self.old self.new }
         ensures stays { result ≡ false → (self.old.right ≡ []) × (self.new ≡ self.old) }
     {
-        let Some(item) = self.right.pop() else {
-            return false;
-        };
-        put_last(&mut self.low, &mut self.high, item);
-        true
+        if self.start < self.cells {
+            let item = get(&self.row, self.start);
+            put(&mut self.row, self.end, item);
+            self.end += 1;
+            self.start += 1;
+            true
+        } else {
+            false
+        }
     }
 
     /// The item of left at this place, counted from 0. `None` exactly past its end.
     pub fn left_at(&self, k: usize) -> Option<T>
         ensures { result ≡ slice_get self.now.left k }
     {
-        if k < self.low.len() {
-            self.low.get(k).copied()
+        if k < self.low {
+            Some(get(&self.row, k))
+        } else if k - self.low < self.end - self.high {
+            Some(get(&self.row, self.high + (k - self.low)))
         } else {
-            self.high.get(k - self.low.len()).copied()
+            None
         }
     }
 
@@ -132,8 +232,8 @@ impl<T: Copy> GapWord<T> {
     pub fn right_at(&self, k: usize) -> Option<T>
         ensures { result ≡ slice_get self.now.right k }
     {
-        if k < self.right.len() {
-            self.right.get(self.right.len() - 1 - k).copied()
+        if k < self.cells - self.start {
+            Some(get(&self.row, self.start + k))
         } else {
             None
         }
@@ -144,7 +244,7 @@ impl<T: Copy> GapWord<T> {
         ensures value { result ≡ length self.now.left }
         ensures within { room self.now ≤ MAX_ROOM }
     {
-        self.low.len() + self.high.len()
+        self.low + (self.end - self.high)
     }
 
     /// How many items right has.
@@ -152,7 +252,7 @@ impl<T: Copy> GapWord<T> {
         ensures value { result ≡ length self.now.right }
         ensures within { room self.now ≤ MAX_ROOM }
     {
-        self.right.len()
+        self.cells - self.start
     }
 
     /// How many more items there is room for.
@@ -160,7 +260,7 @@ impl<T: Copy> GapWord<T> {
         ensures value { result ≡ self.now.spare }
         ensures within { room self.now ≤ MAX_ROOM }
     {
-        self.spare
+        self.high - self.low + (self.start - self.end) + self.rest
     }
 
     /// Takes the item of left at this place, counted from 0, out. It costs the distance from the last item
@@ -169,8 +269,17 @@ impl<T: Copy> GapWord<T> {
         requires { k < length self.old.left }
         ensures { self.new ≡ gap (remove self.old.left k) self.old.right (self.old.spare + 1) }
     {
-        remove_at(&mut self.low, &mut self.high, k);
-        self.spare += 1;
+        if k < self.low {
+            let count = self.low - k - 1;
+            self.high -= count;
+            shift(&mut self.row, k + 1, self.high, count);
+            self.low = k;
+        } else {
+            let count = k - self.low;
+            shift(&mut self.row, self.high, self.low, count);
+            self.low = k;
+            self.high += count + 1;
+        }
     }
 
     /// Moves the cursor so that left has so many items.
@@ -179,133 +288,30 @@ impl<T: Copy> GapWord<T> {
         ensures { self.new ≡ gap (take k (self.old.left ++ self.old.right))
             (drop k (self.old.left ++ self.old.right)) self.old.spare }
     {
-        if k < self.left_len() {
-            self.back_to(k);
+        let len = self.low + (self.end - self.high);
+        if len < k {
+            // The first ones of right go behind left.
+            let count = k - len;
+            shift(&mut self.row, self.start, self.end, count);
+            self.end += count;
+            self.start += count;
+        } else if self.low <= k {
+            // The last of the high ones go in front of right; the hole stays.
+            let count = len - k;
+            self.end -= count;
+            self.start -= count;
+            shift(&mut self.row, self.end, self.start, count);
         } else {
-            self.on_to(k);
+            // All high ones go, and then the last of the low ones: the hole joins the room between.
+            let above = self.end - self.high;
+            self.start -= above;
+            shift(&mut self.row, self.high, self.start, above);
+            let count = self.low - k;
+            self.start -= count;
+            shift(&mut self.row, k, self.start, count);
+            self.low = k;
+            self.high = k;
+            self.end = k;
         }
-    }
-
-    // The same where the cursor moves back.
-    fn back_to(&mut self, k: usize)
-        requires { k ≤ length self.old.left }
-        ensures items { self.new.left ++ self.new.right ≡ self.old.left ++ self.old.right }
-        ensures place { length self.new.left ≡ k }
-        ensures spare { self.new.spare ≡ self.old.spare }
-    {
-        for _ in k..self.left_len() {
-            self.step_left();
-        }
-    }
-
-    // The same where the cursor moves on.
-    fn on_to(&mut self, k: usize)
-        requires from { length self.old.left ≤ k }
-        requires to { k ≤ length self.old.left + length self.old.right }
-        ensures items { self.new.left ++ self.new.right ≡ self.old.left ++ self.old.right }
-        ensures place { length self.new.left ≡ k }
-        ensures spare { self.new.spare ≡ self.old.spare }
-    {
-        for _ in self.left_len()..k {
-            self.step_right();
-        }
-    }
-}
-
-// Puts an item at the end of two parts: of the high one, unless that is empty.
-fn put_last<T: Copy>(low: &mut Vec<T>, high: &mut VecDeque<T>, item: T)
-    requires low_has_room { length low.old.items < vec_capacity low.old }
-    requires high_has_room { length high.old.items < deque_capacity high.old }
-    ensures items { low.new.items ++ high.new.items ≡ (low.old.items ++ high.old.items) ++ item ∷ [] }
-    ensures low_room { vec_capacity low.new ≡ vec_capacity low.old }
-    ensures high_room { deque_capacity high.new ≡ deque_capacity high.old }
-{
-    if high.is_empty() {
-        low.push_reserved(item);
-    } else {
-        high.push_back_reserved(item);
-    }
-}
-
-// Takes the last item of two parts out.
-fn take_last<T: Copy>(low: &mut Vec<T>, high: &mut VecDeque<T>) -> Option<T>
-    ensures item { MatchOption result ((low.old.items ++ high.old.items ≡ [])
-        × (low.new.items ++ high.new.items ≡ []))
-        (λ x. low.old.items ++ high.old.items ≡ (low.new.items ++ high.new.items) ++ x ∷ []) }
-    ensures low_room { vec_capacity low.new ≡ vec_capacity low.old }
-    ensures high_room { deque_capacity high.new ≡ deque_capacity high.old }
-{
-    match high.pop_back() {
-        Some(item) => Some(item),
-        None => low.pop(),
-    }
-}
-
-// Removes the item at this place of two parts.
-fn remove_at<T: Copy>(low: &mut Vec<T>, high: &mut VecDeque<T>, k: usize)
-    requires place { k < length low.old.items + length high.old.items }
-    requires low_has_room { length low.old.items + length high.old.items ≤ vec_capacity low.old }
-    requires high_has_room { length low.old.items + length high.old.items ≤ deque_capacity high.old }
-    ensures items { low.new.items ++ high.new.items ≡ remove (low.old.items ++ high.old.items) k }
-    ensures count { length low.new.items + length high.new.items + 1
-        ≡ length low.old.items + length high.old.items }
-    ensures low_room { vec_capacity low.new ≡ vec_capacity low.old }
-    ensures high_room { deque_capacity high.new ≡ deque_capacity high.old }
-{
-    cut_at(low, high, k + 1);
-    let Some(_item) = low.pop() else {
-        unreachable!();
-    };
-}
-
-// Moves items between the two parts until the low part has so many.
-fn cut_at<T: Copy>(low: &mut Vec<T>, high: &mut VecDeque<T>, k: usize)
-    requires place { k ≤ length low.old.items + length high.old.items }
-    requires low_has_room { length low.old.items + length high.old.items ≤ vec_capacity low.old }
-    requires high_has_room { length low.old.items + length high.old.items ≤ deque_capacity high.old }
-    ensures items { low.new.items ++ high.new.items ≡ low.old.items ++ high.old.items }
-    ensures place { length low.new.items ≡ k }
-    ensures low_room { vec_capacity low.new ≡ vec_capacity low.old }
-    ensures high_room { deque_capacity high.new ≡ deque_capacity high.old }
-{
-    if k < low.len() {
-        lower_to(low, high, k);
-    } else {
-        raise_to(low, high, k);
-    }
-}
-
-// Moves the last items of the low part to the front of the high part, until the low part has so many.
-fn lower_to<T: Copy>(low: &mut Vec<T>, high: &mut VecDeque<T>, k: usize)
-    requires place { k ≤ length low.old.items }
-    requires room { length low.old.items + length high.old.items ≤ deque_capacity high.old }
-    ensures items { low.new.items ++ high.new.items ≡ low.old.items ++ high.old.items }
-    ensures place { length low.new.items ≡ k }
-    ensures low_room { vec_capacity low.new ≡ vec_capacity low.old }
-    ensures high_room { deque_capacity high.new ≡ deque_capacity high.old }
-{
-    for _ in k..low.len() {
-        let Some(item) = low.pop() else {
-            unreachable!();
-        };
-        high.push_front_reserved(item);
-    }
-}
-
-// Moves the first items of the high part to the end of the low part, until the low part has so many.
-fn raise_to<T: Copy>(low: &mut Vec<T>, high: &mut VecDeque<T>, k: usize)
-    requires from { length low.old.items ≤ k }
-    requires place { k ≤ length low.old.items + length high.old.items }
-    requires room { length low.old.items + length high.old.items ≤ vec_capacity low.old }
-    ensures items { low.new.items ++ high.new.items ≡ low.old.items ++ high.old.items }
-    ensures place { length low.new.items ≡ k }
-    ensures low_room { vec_capacity low.new ≡ vec_capacity low.old }
-    ensures high_room { deque_capacity high.new ≡ deque_capacity high.old }
-{
-    for _ in low.len()..k {
-        let Some(item) = high.pop_front() else {
-            unreachable!();
-        };
-        low.push_reserved(item);
     }
 }

@@ -1,7 +1,10 @@
 //! A buffer with a cursor, whose items are put in and taken out at the cursor.
 #![tactic(auto)]
 
+mod block;
 mod buffer;
+mod held;
+mod places;
 #[cfg(test)]
 mod tests;
 

@@ -80,6 +80,24 @@ fn assert_holds(
     assert_eq!(rt; word.right_at(right.len()), None, "row {row}, call {call}");
 }
 
+// Makes the calls of each row on a buffer of its own, and asserts what each leaves.
+fn assert_rows(rt: &impl Abort, alloc: Global, rows: &[(usize, &[Step])]) -> Result<(), Fail> {
+    for (row, (room, steps)) in rows.iter().enumerate() {
+        assert!(rt; *room <= MAX_ROOM);
+        let mut word = GapWord::with_capacity(alloc, *room)?;
+        for (call, (made, answer, left, right, spare)) in steps.iter().enumerate() {
+            assert_eq!(rt;
+                perform(rt, &mut word, *made),
+                *answer,
+                "row {row}, call {call}"
+            );
+            assert_holds(rt, &word, left, right, row, call);
+            assert_eq!(rt; word.spare(), *spare, "row {row}, call {call}");
+        }
+    }
+    Ok(())
+}
+
 #[test]
 fn each_call_does_its_list_operation(rt: HostRuntime) -> Result<(), Fail> {
     let rows: [(usize, &[Step]); 3] = [
@@ -122,20 +140,74 @@ fn each_call_does_its_list_operation(rt: HostRuntime) -> Result<(), Fail> {
             ],
         ),
     ];
-    for (row, (room, steps)) in rows.into_iter().enumerate() {
-        assert!(rt; room <= MAX_ROOM);
-        let mut word = GapWord::with_capacity(rt.alloc(), room)?;
-        for (call, (made, answer, left, right, spare)) in steps.iter().enumerate() {
-            assert_eq!(rt;
-                perform(&rt, &mut word, *made),
-                *answer,
-                "row {row}, call {call}"
-            );
-            assert_holds(&rt, &word, left, right, row, call);
-            assert_eq!(rt; word.spare(), *spare, "row {row}, call {call}");
-        }
-    }
-    Ok(())
+    assert_rows(&rt, rt.alloc(), &rows)
+}
+
+#[test]
+fn the_hole_moves_and_closes(rt: HostRuntime) -> Result<(), Fail> {
+    let rows: [(usize, &[Step]); 3] = [
+        // The row is full but for the hole, which a push on either side closes.
+        (
+            4,
+            &[
+                (Call::PushLeft(1), None, &[1], &[], 3),
+                (Call::PushLeft(2), None, &[1, 2], &[], 2),
+                (Call::PushLeft(3), None, &[1, 2, 3], &[], 1),
+                (Call::PushLeft(4), None, &[1, 2, 3, 4], &[], 0),
+                (Call::RemoveLeft(1), None, &[1, 3, 4], &[], 1),
+                (Call::PushLeft(5), None, &[1, 3, 4, 5], &[], 0),
+                (Call::RemoveLeft(2), None, &[1, 3, 5], &[], 1),
+                (Call::PushRight(6), None, &[1, 3, 5], &[6], 0),
+                (Call::RemoveLeft(0), None, &[3, 5], &[6], 1),
+                (Call::StepLeft, Some(1), &[3], &[5, 6], 1),
+                (Call::StepRight, Some(1), &[3, 5], &[6], 1),
+                (Call::PushRight(7), None, &[3, 5], &[7, 6], 0),
+                (Call::PopLeft, Some(5), &[3], &[7, 6], 1),
+            ],
+        ),
+        // An item is removed above the hole, below it, and at each of its edges.
+        (
+            6,
+            &[
+                (Call::PushLeft(1), None, &[1], &[], 5),
+                (Call::PushLeft(2), None, &[1, 2], &[], 4),
+                (Call::PushLeft(3), None, &[1, 2, 3], &[], 3),
+                (Call::PushLeft(4), None, &[1, 2, 3, 4], &[], 2),
+                (Call::PushLeft(5), None, &[1, 2, 3, 4, 5], &[], 1),
+                (Call::PushLeft(6), None, &[1, 2, 3, 4, 5, 6], &[], 0),
+                (Call::RemoveLeft(3), None, &[1, 2, 3, 5, 6], &[], 1),
+                (Call::RemoveLeft(4), None, &[1, 2, 3, 5], &[], 2),
+                (Call::RemoveLeft(1), None, &[1, 3, 5], &[], 3),
+                (Call::RemoveLeft(1), None, &[1, 5], &[], 4),
+                (Call::RemoveLeft(0), None, &[5], &[], 5),
+                (Call::PopLeft, Some(5), &[], &[], 6),
+                (Call::PopLeft, None, &[], &[], 6),
+            ],
+        ),
+        // The first push is on the right. The cursor moves past left, above the hole, and below it.
+        (
+            7,
+            &[
+                (Call::PushRight(3), None, &[], &[3], 6),
+                (Call::PushRight(2), None, &[], &[2, 3], 5),
+                (Call::PushRight(1), None, &[], &[1, 2, 3], 4),
+                (Call::PushLeft(4), None, &[4], &[1, 2, 3], 3),
+                (Call::PushLeft(5), None, &[4, 5], &[1, 2, 3], 2),
+                (Call::PushLeft(6), None, &[4, 5, 6], &[1, 2, 3], 1),
+                (Call::PushLeft(7), None, &[4, 5, 6, 7], &[1, 2, 3], 0),
+                (Call::MoveTo(5), None, &[4, 5, 6, 7, 1], &[2, 3], 0),
+                (Call::RemoveLeft(2), None, &[4, 5, 7, 1], &[2, 3], 1),
+                (Call::MoveTo(3), None, &[4, 5, 7], &[1, 2, 3], 1),
+                (Call::MoveTo(1), None, &[4], &[5, 7, 1, 2, 3], 1),
+                (Call::MoveTo(6), None, &[4, 5, 7, 1, 2, 3], &[], 1),
+                (Call::MoveTo(6), None, &[4, 5, 7, 1, 2, 3], &[], 1),
+                (Call::MoveTo(0), None, &[], &[4, 5, 7, 1, 2, 3], 1),
+                (Call::StepLeft, Some(0), &[], &[4, 5, 7, 1, 2, 3], 1),
+                (Call::PopRight, Some(4), &[], &[5, 7, 1, 2, 3], 2),
+            ],
+        ),
+    ];
+    assert_rows(&rt, rt.alloc(), &rows)
 }
 
 // A number below a bound, from a state that goes on.
@@ -226,5 +298,18 @@ fn calls_in_any_order_agree_with_plain_lists(rt: HostRuntime) -> Result<(), Fail
             assert_holds(&rt, &word, &left, &right, row, call);
         }
     }
+    Ok(())
+}
+
+#[test]
+fn debug_shows_the_lengths_and_the_room(rt: HostRuntime) -> Result<(), Fail> {
+    let mut word = GapWord::with_capacity(rt.alloc(), 3)?;
+    assert!(rt; word.spare() > 0);
+    word.push_left(7_u32);
+    let text = format!(in rt.alloc(); "{word:?}")?;
+    assert_eq!(rt;
+        text.as_str(),
+        "GapWord { left_len: 1, right_len: 0, spare: 2 }"
+    );
     Ok(())
 }
