@@ -152,6 +152,15 @@ product-done old mid new address t u n due within is granted = record {
   kept = IsFront-trans old mid new due.kept (IsFront-ask mid new u granted);
 }
 
+-- along no address the term itself is expanded
+pub Outcome-here
+    : (old : List Term) (address : List ℕ) (t : Term) (new : List Term) (result : Result ℕ ExpandErr)
+    → length address ≡ 0
+    → Outcome old [] t new result
+    → Outcome old address t new result
+Outcome-here old [] t new result none outcome = outcome
+Outcome-here old (byte ∷ bytes) t new result none outcome = absurd (omega (arith, none))
+
 -- ---- One step of the address ----
 
 -- The address leads from a term to a part of it, and then along the rest.
@@ -316,6 +325,14 @@ module _ (old : List Term) (t : Term) (left middle last : ℕ) (placed : ArePlac
   module _ (mid : List Term) (granted : ask old here_first ≡ answered mid) where
     front : IsFront old mid
     front = IsFront-ask old mid here_first granted
+
+    -- the numbers are still there
+    pub still-placed : (left < length mid) × (middle < length mid) × (last < length mid)
+    still-placed = (
+      length-front old mid left front placed.left_within,
+      length-front old mid middle front placed.middle_within,
+      length-front old mid last front placed.last_within,
+    )
 
     -- the product tv, of the terms that the numbers stand for then
     second-is : multiply (term_at mid left) (term_at mid last) ≡ here_second

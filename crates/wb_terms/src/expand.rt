@@ -1,9 +1,10 @@
 // The command `expand A`.
-ghost use Rattle.std.specs.Prelude.{◌≡◌, ◌<◌, length, IfOk};
+ghost use Rattle.std.specs.Prelude.{◌≡◌, ◌<◌, length, IfErr, IfOk};
 ghost use Rattle.term_graph.specs.TermLists.{term_at};
 ghost use Rattle.term_expand.specs.Expansions.{IsAddress};
-ghost use Rattle.wb_command.specs.Refusals.{comes_answer};
-ghost use Rattle.wb_terms.specs.Listed.{listing_answer};
+ghost use Rattle.term_graph.specs.Asks.{answered};
+ghost use Rattle.wb_command.specs.Refusals.{comes_answer, refusal_answer};
+ghost use Rattle.wb_terms.specs.Listed.{listed, listing_answer};
 ghost use Rattle.wb_terms.specs.Expand.{address_of, expand_meaning, expand_of, expanded_at};
 
 use crate::listed::ListedTerm;
@@ -69,6 +70,33 @@ impl<'a> Expand<'a> {
     }
 }
 
+// The node of a term that is expanded at an address, or a refusal. The line is for a fault of the address.
+fn expand_node(
+    alloc: Global,
+    graph: &mut TermGraph,
+    node: NodeId,
+    address: &[u8],
+    line: u64,
+) -> Result<Result<NodeId, Refusal>, AllocError>
+    requires number { node < length graph.old }
+    requires address { IsAddress address.now }
+    ensures number { IfOk result (λ expanded. IfOk expanded (λ n. n < length graph.new)) }
+    ensures listed { IfOk result (λ expanded. IfOk expanded (λ n.
+        expanded_at line address.now graph.old (term_at graph.old node)
+        ≡ listed (answered graph.new) (term_at graph.new n))) }
+    ensures refused { IfOk result (λ expanded. IfErr expanded (λ refusal.
+        expanded_at line address.now graph.old (term_at graph.old node) ≡ refusal_answer refusal)) }
+{
+    match term_expand::expand(alloc, graph, node, address) {
+        Ok(number) => Ok(Ok(number)),
+        Err(ExpandErr::NoPlace) => Ok(Err(Refusal::BadInput(Fault::Address(line)))),
+        Err(ExpandErr::NotExpandable) => Ok(Err(Refusal::BadInput(Fault::Expand(line)))),
+        Err(ExpandErr::TooDeep) => Ok(Err(Refusal::HeightMet)),
+        Err(ExpandErr::Full) => Ok(Err(Refusal::NodesMet)),
+        Err(ExpandErr::Memory) => Err(AllocError),
+    }
+}
+
 // The listing of a term that is expanded at an address. The line is for a fault of the address.
 fn expand_term(
     alloc: Global,
@@ -82,13 +110,9 @@ fn expand_term(
     ensures { IfOk result (λ outcome. expanded_at line address.now graph (term_at graph node)
         ≡ comes_answer listing_answer outcome) }
 {
-    match term_expand::expand(alloc, &mut graph, node, address) {
+    match expand_node(alloc, &mut graph, node, address, line)? {
         Ok(number) => Ok(Comes::Done(ListedTerm::make(alloc, graph, number)?)),
-        Err(ExpandErr::NoPlace) => Ok(Comes::Stopped(Refusal::BadInput(Fault::Address(line)))),
-        Err(ExpandErr::NotExpandable) => Ok(Comes::Stopped(Refusal::BadInput(Fault::Expand(line)))),
-        Err(ExpandErr::TooDeep) => Ok(Comes::Stopped(Refusal::HeightMet)),
-        Err(ExpandErr::Full) => Ok(Comes::Stopped(Refusal::NodesMet)),
-        Err(ExpandErr::Memory) => Err(AllocError),
+        Err(refusal) => Ok(Comes::Stopped(refusal)),
     }
 }
 

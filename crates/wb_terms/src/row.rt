@@ -2,6 +2,7 @@
 ghost use Rattle.std.specs.Prelude.{◌≡◌, ◌<◌, ◌≤◌, ◌^◌};
 ghost use Rattle.wb_base.specs.Streams.{HasCause, Puts};
 ghost use Rattle.laver_table.specs.TableText.{row_line};
+ghost use Rattle.laver_table.specs.declared.TheConstants.{MAX_EXPONENT};
 ghost use Rattle.wb_terms.specs.Row.{AreRowNumbers, row_answer, row_meaning, row_of_words};
 
 use laver_table::{MAX_EXPONENT, Table, put_row};
@@ -28,6 +29,14 @@ impl Model for Row {
     ghost invariant = { λ s. AreRowNumbers (record { exponent = s.exponent; row = s.row }) };
 }
 
+// The size of a table.
+fn size_of(exponent: u32) -> u32
+    requires { exponent ≤ MAX_EXPONENT }
+    ensures { result ≡ 2 ^ exponent }
+{
+    1 << exponent
+}
+
 impl Row {
     /// The command with the exponent of the table's size and the number of the row, from 1.
     pub fn new(exponent: u32, row: u32) -> Row
@@ -42,7 +51,7 @@ impl Row {
         ensures { result ≡ row_of_words words.old }
     {
         let exponent = words.number(0, MAX_EXPONENT)?;
-        let row = words.number(1, 1 << exponent)?;
+        let row = words.number(1, size_of(exponent))?;
         if words.is_at_end() {
             Some(Row { exponent, row })
         } else {

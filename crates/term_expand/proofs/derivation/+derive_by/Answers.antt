@@ -1,12 +1,15 @@
 -- The derivation of a product is made of those of its parts, and of a distribution.
-use Rattle.std.proofs.Common.{ℕ}
+use Rattle.std.proofs.Common.{◌<◌, ℕ, length, arith}
 use Rattle.std.proofs.lemmas.Result.{err_from_is_err_and}
+use Rattle.term_graph.proofs.RequestLemmas.{IsFront-trans, length-front}
 use Rattle.term_graph.proofs.StopLemmas.{IsStopped-memory}
+use Rattle.term_graph.specs.Requests.{IsFront}
 use Rattle.term_expand.specs.Memos.{IsMade}
 use Rattle.term_expand.specs.declared.memo.Work.TheVariants.{Derivation}
 use Rattle.term_expand.proofs.MemoLemmas.{IsMade-answer, IsAnswer-made}
 use Rattle.term_expand.proofs.WorkLemmas.{first-stopped, second-stopped, parts-made, derivation-begins, distribution-stopped, distribution-made}
 use Rattle.term_expand.proofs.derivation.+derive_by.Goals as goal
+use Rattle.term_expand.proofs.derivation.+derive_by.Goals.{After-distribute_by}
 
 pub returns-in-Some-find-clause-made : goal.returns-in-Some-find-clause-made
 returns-in-Some-find-clause-made t c =
@@ -63,3 +66,44 @@ pub returns-clause-memo : goal.returns-clause-memo
 returns-clause-memo t c =
     let answer = IsMade-answer _ _ _ _ c.requires.there (made t c) in
     c.in_ok-remember.ensures c.distribute_by.new.graph c.in_ok-number.ensures.memo (rw c.index.ensures answer)
+
+pub derive_by-requires-2 : goal.derive_by-requires-2
+derive_by-requires-2 t c = (
+  omega (arith, c.in-Some.ensures.0, c.in-Some.ensures.1),
+  (
+    length-front c.args.graph.now c.derive_by.new.graph _ c.derive_by.ensures.kept
+        (omega (arith, c.requires.there, c.in-Some.ensures.0, c.in-Some.ensures.1)),
+    c.in_ok-left.ensures.memo,
+  ),
+)
+
+pub distribute_by-requires-clause-left : goal.distribute_by-requires-clause-left
+distribute_by-requires-clause-left t c =
+    let left : c.in_ok-left.left < length c.derive_by-2.new.graph =
+    length-front c.derive_by.new.graph _ _ c.derive_by-2.ensures.kept c.in_ok-left.ensures.made.within in
+    let right : c.in_ok-right.right < length c.derive_by-2.new.graph = c.in_ok-right.ensures.made.within in
+    omega (arith, left, right)
+
+-- ---- What was there stays ----
+
+pub returns-in_err-right-clause-kept : goal.returns-in_err-right-clause-kept
+returns-in_err-right-clause-kept t c =
+    IsFront-trans c.args.graph.now c.derive_by.new.graph _ c.derive_by.ensures.kept c.derive_by-2.ensures.kept
+
+-- both parts are derived, and the distribution was begun
+kept : (t : ℕ) (c : After-distribute_by t) → IsFront c.args.graph.now c.distribute_by.new.graph
+kept t c =
+    IsFront-trans c.args.graph.now c.derive_by-2.new.graph _
+    (IsFront-trans c.args.graph.now c.derive_by.new.graph _ c.derive_by.ensures.kept
+    c.derive_by-2.ensures.kept) c.distribute_by.ensures.kept
+
+pub returns-in_err-number-clause-kept : goal.returns-in_err-number-clause-kept
+returns-in_err-number-clause-kept t c =
+    kept t (goal.at.returns-in_err-number-clause-kept t c).After-distribute_by
+
+pub returns-in_err-remember-clause-kept : goal.returns-in_err-remember-clause-kept
+returns-in_err-remember-clause-kept t c =
+    kept t (goal.at.returns-in_err-remember-clause-kept t c).After-distribute_by
+
+pub returns-clause-kept : goal.returns-clause-kept
+returns-clause-kept t c = kept t (goal.at.returns-clause-kept t c).After-distribute_by

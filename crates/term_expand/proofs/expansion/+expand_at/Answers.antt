@@ -1,7 +1,8 @@
 -- A part is expanded first, and then the product above it is due.
 use Rattle.std.proofs.Common.{arith}
+use Rattle.term_graph.proofs.RequestLemmas.{length-front}
 use Rattle.std.proofs.lemmas.Result.{err_from_is_err_and}
-use Rattle.term_expand.proofs.ExpandLemmas.{left-step, right-step, part-refused, left-due, right-due, product-refused, product-done}
+use Rattle.term_expand.proofs.ExpandLemmas.{Outcome-here, left-step, right-step, part-refused, left-due, right-due, product-refused, product-done}
 use Rattle.term_expand.proofs.expansion.+expand_at.Goals as goal
 
 pub returns-in_err-part : goal.returns-in_err-part
@@ -61,3 +62,16 @@ returns-in_ok-product-2 t c =
     c.in_ok-part-2.ensures in
     let done = c.in_ok-product-2.ensures in
     product-done _ _ _ _ _ _ _ due done.number.0 done.number.1 done.asked
+
+pub returns-in_default : goal.returns-in_default
+returns-in_default t c = Outcome-here _ _ _ _ _ c.in_default.ensures.cases c.expand_here.ensures
+
+pub product-requires-clause-right : goal.product-requires-clause-right
+product-requires-clause-right t c =
+    length-front c.args.graph.now c.expand_at.new.graph _ c.expand_at.ensures.kept
+    (omega (arith, c.requires, c.in-Some-children.ensures.1))
+
+pub product-requires-else-side-eq48-clause-left : goal.product-requires-else-side-eq48-clause-left
+product-requires-else-side-eq48-clause-left t c =
+    length-front c.args.graph.now c.expand_at-else-side-eq48.new.graph _
+    c.expand_at-else-side-eq48.ensures.kept (omega (arith, c.requires, c.in-Some-children.ensures.0))

@@ -1,9 +1,9 @@
 -- The first two products are granted or refused, and then the last one is due.
-use Rattle.std.proofs.Common.{◌<◌, length, []}
+use Rattle.std.proofs.Common.{◌<◌, length, [], arith}
 use Rattle.std.proofs.lemmas.Result.{err_from_is_err_and}
 use Rattle.ld_term.specs.Terms.{multiply}
 use Rattle.term_graph.specs.TermLists.{term_at}
-use Rattle.term_expand.proofs.ExpandLemmas.{IsDue, are-placed, second-refused, here-due, product-refused, product-done}
+use Rattle.term_expand.proofs.ExpandLemmas.{IsDue, are-placed, still-placed, second-refused, here-due, product-refused, product-done}
 use Rattle.term_expand.proofs.expansion.expand_here.Goals as goal
 use Rattle.term_expand.proofs.expansion.expand_here.Goals.{In_ok-second}
 
@@ -43,3 +43,17 @@ returns c =
     let done = c.in_ok-product.ensures in
     product-done _ _ _ _ _ _ _ (last (goal.at.returns c).In_ok-second).1 done.number.0 done.number.1
     done.asked
+
+pub product-requires-2-clause-left : goal.product-requires-2-clause-left
+product-requires-2-clause-left c =
+    let (left, middle, last) = still-placed _ _ _ _ _
+    (are-placed _ _ _ _ _ _ c.requires c.in-Some.ensures c.in-Some-children.ensures) _
+    c.in_ok-first.ensures.asked in
+    omega (arith, left, middle, last)
+
+pub product-requires-2-clause-right : goal.product-requires-2-clause-right
+product-requires-2-clause-right c =
+    let (left, middle, last) = still-placed _ _ _ _ _
+    (are-placed _ _ _ _ _ _ c.requires c.in-Some.ensures c.in-Some-children.ensures) _
+    c.in_ok-first.ensures.asked in
+    omega (arith, left, middle, last)
