@@ -1,7 +1,7 @@
 -- Laws of the whole lines of some bytes.
 --
--- A text without LF goes in front of what is cut behind it (`cut-onto_front`), and where an LF follows it, it is
--- the first line (`cut-line`). The rest has no LF (`rest-no_lf`), so bytes that follow go on from it
+-- A text without LF goes in front of what is cut behind it (`cut-onto_front`), and where an LF follows it, it
+-- is the first line (`cut-line`). The rest has no LF (`rest-no_lf`), so bytes that follow go on from it
 -- (`cut-append`).
 use Rattle.std.proofs.Common.{◌≡◌, ℕ, suc, zero, Bool, true, false, cond, eqb, List, [], ◌∷◌, ◌++◌, ap, refl, sym, ◌∙◌, arith}
 use Rattle.std.proofs.lemmas.Bool.{eqb-false}
@@ -51,7 +51,9 @@ cut-onto_front (b ∷ text) bytes none =
     ∙ ap (onto_line b) (cut-onto_front text bytes (λ k below. none (suc k) (omega arith)))
     ∙ one_more (cut bytes)
   where
-    one_more : (parts : List (List ℕ) × List ℕ) → onto_line b (onto_front text parts) ≡ onto_front (b ∷ text) parts
+    one_more
+        : (parts : List (List ℕ) × List ℕ)
+        → onto_line b (onto_front text parts) ≡ onto_front (b ∷ text) parts
     one_more ([], rest) = refl
     one_more (l ∷ ls, rest) = refl
 
@@ -61,7 +63,8 @@ pub cut-line
     → HasNoLf text
     → cut (text ++ 10 ∷ more) ≡ (text ∷ (cut more).0, (cut more).1)
 cut-line text more none =
-    cut-onto_front text (10 ∷ more) none ∙ ap (λ first. (first ∷ (cut more).0, (cut more).1)) (append-nil text)
+    cut-onto_front text (10 ∷ more) none
+    ∙ ap (λ first. (first ∷ (cut more).0, (cut more).1)) (append-nil text)
 
 -- bytes that follow others are cut from the rest of these on
 pub cut-append

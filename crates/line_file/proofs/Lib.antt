@@ -1,5 +1,6 @@
 pub mod CutLemmas
 pub mod WalkLemmas
 pub mod RefusalLaws
+pub mod GrammarLaws
 pub mod PieceLaws
 pub mod SourceLemmas

@@ -1,7 +1,7 @@
 -- Laws of files whose bytes come in pieces.
 --
--- What is held of the bytes that came is fed by a piece to what is held of both (`fed-held_of`), and the end of
--- what is held is the check of the file (`finished-held_of`). So the pieces don't matter. What was refused
+-- What is held of the bytes that came is fed by a piece to what is held of both (`fed-held_of`), and the end
+-- of what is held is the check of the file (`finished-held_of`). So the pieces don't matter. What was refused
 -- stays so, whatever follows (`held_of-refused`), and is the file's first refusal (`checked_of-refused`). At
 -- most as many bytes are held as a line may have (`length-held_of`).
 use Rattle.std.proofs.Common.{◌≡◌, ℕ, ◌<◌, ◌≤◌, Bool, true, false, cond, ltb, List, [], ◌∷◌, ◌++◌, length, length-append, Option, Some, None, Result, Ok, Err, inl, inr, refl, sym, ap, ◌∙◌, subst, arith}
@@ -21,7 +21,8 @@ use Rattle.line_file.proofs.WalkLemmas.{walked_more, walked-append}
 
 -- a line that is refused before its LF comes is refused where more follows
 held_from-extra
-    : {D W C : Type 0} (f : Format D W C) (k : ℕ) (now : D) (claim : C) (byte : ℕ) (rest : List ℕ) (parts : List (List ℕ) × List ℕ)
+    : {D W C : Type 0} (f : Format D W C) (k : ℕ) (now : D) (claim : C) (byte : ℕ) (rest : List ℕ)
+    (parts : List (List ℕ) × List ℕ)
     → f.passed now ≡ Some claim
     → held_from f k now (onto_front (byte ∷ rest) parts) ≡ was_refused k f.extra
 held_from-extra f k now claim byte rest ([], more) passed =
@@ -76,12 +77,14 @@ fed-held_of {D} {W} f bytes piece =
     ∙ ap (λ w. held_by f w (onto_front (cut bytes).1 (cut piece)).1)
     (sym (walked-append f 1 f.start (cut bytes).0 (onto_front (cut bytes).1 (cut piece)).0))
     ∙ ap (held_from f 1 f.start)
-    (sym (cut-append bytes piece ∙ ap (onto_lines (cut bytes).0) (cut-onto_front (cut bytes).1 piece (rest-no_lf bytes))))
+    (sym (cut-append bytes piece
+    ∙ ap (onto_lines (cut bytes).0) (cut-onto_front (cut bytes).1 piece (rest-no_lf bytes))))
   where
     go
         : (w : Result (ℕ × D) (ℕ × W))
         → fed f (held_by f w (cut bytes).1) piece
-        ≡ held_by f (walked_more f w (onto_front (cut bytes).1 (cut piece)).0) (onto_front (cut bytes).1 (cut piece)).1
+        ≡ held_by f (walked_more f w (onto_front (cut bytes).1 (cut piece)).0)
+        (onto_front (cut bytes).1 (cut piece)).1
     go (Ok (k, now)) = fed-held_behind f k now (cut bytes).1 piece
     go (Err (k, why)) = refl
 
@@ -106,7 +109,9 @@ pub fed-line
     → fed f (is_reading k now rest) piece ≡ fed f (is_reading (one_more k) next []) behind
 fed-line f k now next rest piece end behind is kept =
     ap (λ parts. held_from f k now (onto_front rest parts)) is
-    ∙ ap (λ after. held_by f (walk_on k after (λ next. walked f (one_more k) next (cut behind).0)) (cut behind).1) kept
+    ∙ ap
+    (λ after. held_by f (walk_on k after (λ next. walked f (one_more k) next (cut behind).0)) (cut behind).1)
+    kept
     ∙ ap (held_from f (one_more k) next) (sym (onto_front-none (cut behind)))
 
 -- one that isn't kept is the refusal
@@ -117,7 +122,9 @@ pub fed-refused
     → fed f (is_reading k now rest) piece ≡ was_refused k why
 fed-refused f k now why rest piece end behind is kept =
     ap (λ parts. held_from f k now (onto_front rest parts)) is
-    ∙ ap (λ after. held_by f (walk_on k after (λ next. walked f (one_more k) next (cut behind).0)) (cut behind).1) kept
+    ∙ ap
+    (λ after. held_by f (walk_on k after (λ next. walked f (one_more k) next (cut behind).0)) (cut behind).1)
+    kept
 
 -- and where no line ends, the line that is held goes on
 pub fed-rest
@@ -183,28 +190,51 @@ checked_of-refused f bytes more k why is =
     Some-injective (sym (finished-held_of f (bytes ++ more))
     ∙ ap (finished f) (held_of-refused f bytes more k why is))
 
--- at most as many bytes are held as a line may have
+-- ---- How many bytes are held ----
+
+-- at most as many as a line may have
+length-held_from
+    : {D W C : Type 0} (f : Format D W C) (k : ℕ) (now : D) (cutting : List (List ℕ) × List ℕ)
+    → length_held (held_from f k now cutting) ≤ f.most
+length-held_from {D} {W} {C} f k now (ls, rest) = go (walked f k now ls)
+  where
+    by_length
+        : (long : Bool) (k : ℕ) (now : D)
+        → ltb f.most (length rest) ≡ long
+        → length_held (cond long (was_refused k f.long) (is_reading k now rest)) ≤ f.most
+    by_length true k now test = omega arith
+    by_length false k now test = ltb-false _ _ test
+
+    behind
+        : (o : Option C) (k : ℕ) (now : D) (ends : List ℕ)
+        → ends ≡ rest
+        → length_held (held_behind f o k now ends) ≤ f.most
+    behind (Some claim) k now [] is = omega arith
+    behind (Some claim) k now (byte ∷ ends) is = omega arith
+    behind None k now ends is = rw is (by_length (ltb f.most (length rest)) k now refl)
+
+    go : (w : Result (ℕ × D) (ℕ × W)) → length_held (held_by f w rest) ≤ f.most
+    go (Ok (k, now)) = behind (f.passed now) k now rest refl
+    go (Err (k, why)) = omega arith
+
+-- of any bytes
 pub length-held_of
     : {D W C : Type 0} (f : Format D W C) (bytes : List ℕ)
     → length_held (held_of f bytes) ≤ f.most
 unfolding held_of
-length-held_of {D} {W} {C} f bytes = go (walked f 1 f.start (cut bytes).0)
-  where
-    by_length
-        : (long : Bool) (k : ℕ) (now : D) (rest : List ℕ)
-        → ltb f.most (length rest) ≡ long
-        → length_held (cond long (was_refused k f.long) (is_reading k now rest)) ≤ f.most
-    by_length true k now rest test = omega arith
-    by_length false k now rest test = ltb-false _ _ test
+length-held_of f bytes = length-held_from f 1 f.start (cut bytes)
 
-    behind : (o : Option C) (k : ℕ) (now : D) (rest : List ℕ) → length_held (held_behind f o k now rest) ≤ f.most
-    behind (Some claim) k now [] = omega arith
-    behind (Some claim) k now (byte ∷ rest) = omega arith
-    behind None k now rest = by_length (ltb f.most (length rest)) k now rest refl
-
-    go : (w : Result (ℕ × D) (ℕ × W)) → length_held (held_by f w (cut bytes).1) ≤ f.most
-    go (Ok (k, now)) = behind (f.passed now) k now (cut bytes).1
-    go (Err (k, why)) = omega arith
+-- and behind a piece
+pub length-fed
+    : {D W C : Type 0} (f : Format D W C) (old new : Held D W) (piece : List ℕ)
+    → length_held old ≤ f.most
+    → Comes new (fed f old piece)
+    → length_held new ≤ f.most
+length-fed f (is_reading k now rest) new piece short (inl is) =
+    rw is (length-held_from f k now (onto_front rest (cut piece)))
+length-fed f (was_refused k why) new piece short (inl is) = rw is (omega arith)
+length-fed f ran_out new piece short (inl is) = rw is (omega arith)
+length-fed f old new piece short (inr is) = rw is (omega arith)
 
 -- ---- What a checker answers ----
 
@@ -216,15 +246,6 @@ pub Comes-stands
     → Comes new (held_of f (bytes ++ piece))
 Comes-stands f old new bytes piece comes stands =
     subst (Comes new) (ap (λ held. fed f held piece) stands ∙ fed-held_of f bytes piece) comes
-
--- want of memory stays
-pub Comes-ran_out
-    : {D W C : Type 0} (f : Format D W C) (old new : Held D W) (piece : List ℕ)
-    → Comes new (fed f old piece)
-    → old ≡ ran_out
-    → new ≡ ran_out
-Comes-ran_out f old new piece (inl is) out = is ∙ ap (λ held. fed f held piece) out
-Comes-ran_out f old new piece (inr is) out = is
 
 -- the end of what stands for a file is what the file is
 pub Ends-stands
@@ -267,7 +288,8 @@ Gives-told {C = C} f ran_out bytes e comes is =
 
 -- the end, where no error came before it, is given of the file
 pub Gives-finished
-    : {D W C : Type 0} (f : Format D W C) (held : Held D W) (bytes : List ℕ) (result : Result C (FileErr W)) (u : Unit)
+    : {D W C : Type 0} (f : Format D W C) (held : Held D W) (bytes : List ℕ) (result : Result C (FileErr W))
+    (u : Unit)
     → Comes held (held_of f bytes)
     → told held ≡ Ok u
     → Ends result (finished f held)

@@ -48,7 +48,8 @@ at_line-Ok k x (Err w) is = absurd (cc)
 -- ---- The lines of a file ----
 
 -- What is found of lines, from line k on, and of the bytes behind them.
-record IsStopped {D W C : Type 0} (f : Format D W C) (k : ℕ) (now : D) (ls : List (List ℕ)) (rest : List ℕ) (m : ℕ) (why : W) : Type 0 where
+record IsStopped {D W C : Type 0} (f : Format D W C) (k : ℕ) (now : D) (ls : List (List ℕ)) (rest : List ℕ)
+    (m : ℕ) (why : W) : Type 0 where
   before : List (List ℕ)
   others : List (List ℕ)
   last : D
@@ -57,14 +58,16 @@ record IsStopped {D W C : Type 0} (f : Format D W C) (k : ℕ) (now : D) (ls : L
   kept : AreKept f now before last
   refused : IsRefused f last others rest why
 
-record IsPassed {D W C : Type 0} (f : Format D W C) (now : D) (ls : List (List ℕ)) (rest : List ℕ) (claim : C) : Type 0 where
+record IsPassed {D W C : Type 0} (f : Format D W C) (now : D) (ls : List (List ℕ)) (rest : List ℕ)
+    (claim : C) : Type 0 where
   last : D
   kept : AreKept f now ls last
   ended : at_end f last rest ≡ Ok claim
 
 -- the first line of all that is refused
 IsStopped-here
-    : {D W C : Type 0} (f : Format D W C) (k : ℕ) (now : D) (ls : List (List ℕ)) (rest : List ℕ) (m : ℕ) (w why : W)
+    : {D W C : Type 0} (f : Format D W C) (k : ℕ) (now : D) (ls : List (List ℕ)) (rest : List ℕ) (m : ℕ)
+    (w why : W)
     → k ≤ 2 ^ 64 - 1
     → IsRefused f now ls rest w
     → AreOne k m w why
@@ -81,7 +84,8 @@ IsStopped-here f k now ls rest m w why low refused one = record {
 
 -- lines that are refused have a first refusal
 walked-IsStopped
-    : {D W C : Type 0} (f : Format D W C) (k : ℕ) (now : D) (ls : List (List ℕ)) (rest : List ℕ) (m : ℕ) (why : W)
+    : {D W C : Type 0} (f : Format D W C) (k : ℕ) (now : D) (ls : List (List ℕ)) (rest : List ℕ) (m : ℕ)
+    (why : W)
     → k ≤ 2 ^ 64 - 1
     → ended_behind f (walked f k now ls) rest ≡ Err (m, why)
     → IsStopped f k now ls rest m why
@@ -158,7 +162,10 @@ checked_of-IsClaimed {D} {W} {C} f bytes claim is =
     let (none, last) = go (f.passed passed.last) (cut bytes).1 passed.ended in
     record { last = passed.last; kept = passed.kept; ended = none; passed = last }
   where
-    unfinished : (long : Bool) → ◌≡◌ {A = Result C W} (cond long (Err f.long) (Err f.truncated)) (Ok claim) → ⊥
+    unfinished
+        : (long : Bool)
+        → ◌≡◌ {A = Result C W} (cond long (Err f.long) (Err f.truncated)) (Ok claim)
+        → ⊥
     unfinished true is = cc
     unfinished false is = cc
 
@@ -209,7 +216,8 @@ IsFirstRefusal-checked_of f bytes k why first =
     ∙ ap (λ w. ended_behind f w (cut bytes).1) (walked-append f 1 f.start first.before first.others)
     ∙ ap (λ w. ended_behind f (walked_more f w first.others) (cut bytes).1)
     (AreKept-walked f 1 f.start first.before first.last (omega arith) first.kept)
-    ∙ IsRefused-walked f (line_behind 1 (length first.before)) first.last first.others (cut bytes).1 why first.refused
+    ∙ IsRefused-walked f (line_behind 1 (length first.before)) first.last first.others (cut bytes).1 why
+    first.refused
     ∙ ap (λ k. Err (k, why)) same
 
 -- a file has one first refusal at most

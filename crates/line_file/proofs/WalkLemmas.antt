@@ -10,7 +10,12 @@ use Rattle.line_file.specs.FirstRefusal.{AreKept}
 -- ---- Lines that follow ----
 
 -- What is due behind further lines.
-abbrev pub walked_more : {D W C : Type 0} → Format D W C → Result (ℕ × D) (ℕ × W) → List (List ℕ) → Result (ℕ × D) (ℕ × W)
+abbrev pub walked_more
+    : {D W C : Type 0}
+    → Format D W C
+    → Result (ℕ × D) (ℕ × W)
+    → List (List ℕ)
+    → Result (ℕ × D) (ℕ × W)
 walked_more f (Ok (k, now)) ls = walked f k now ls
 walked_more f (Err refusal) ls = Err refusal
 

@@ -1,7 +1,7 @@
 -- What a file claims, and its first refusal, in the words of its lines.
 --
--- The lines before the refusal can be kept, one after the other, and it can't, for this cause. Where the lines
--- end with no refusal it is what stands behind the last LF that is refused, if anything is.
+-- The lines before the refusal can be kept, one after the other, and it can't, for this cause. Where the
+-- lines end with no refusal it is what stands behind the last LF that is refused, if anything is.
 -- Source: this project's own.
 --
 --   AreKept f now ls last          each line is kept, and `last` is due behind them
@@ -35,7 +35,8 @@ pub record IsClaimed {D W C : Type 0} (f : Format D W C) (bytes : List ℕ) (cla
   pub passed : f.passed last ≡ Some claim
 
 -- Lines count from 1, up to the greatest number of 64 bits.
-pub record IsFirstRefusal {D W C : Type 0} (f : Format D W C) (bytes : List ℕ) (k : ℕ) (why : W) : Type 0 where
+pub record IsFirstRefusal {D W C : Type 0} (f : Format D W C) (bytes : List ℕ) (k : ℕ)
+    (why : W) : Type 0 where
   pub before : List (List ℕ)
   pub others : List (List ℕ)
   pub last : D

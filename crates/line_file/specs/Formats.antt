@@ -1,7 +1,7 @@
 -- Formats of files of lines, and what a file claims.
 --
--- What was read says which line is due. A line that is kept leads to what is due next; the first that isn't is
--- the refusal of the file. A line ends at a byte LF; lines count from 1, up to the greatest of 64 bits.
+-- What was read says which line is due. A line that is kept leads to what is due next; the first that isn't
+-- is the refusal of the file. A line ends at a byte LF; lines count from 1, up to the greatest of 64 bits.
 -- Source: this project's own.
 --
 --   Format               what is due first, what a line leads to, and what is claimed behind the last line
@@ -15,8 +15,8 @@ use Rattle.std.specs.Prelude.{ℕ, nat_lt, Bool, true, false, if◌then◌else�
 use Rattle.wb_base.specs.Streams.{one_more}
 use Rattle.wb_base.specs.Lines.{cut}
 
--- D is what may be due, W are the causes of refusals, C the claims. `kept` is asked only of a line that is due
--- and has at most `most` bytes, without its LF; `passed` has a claim where the last line was passed.
+-- D is what may be due, W are the causes of refusals, C the claims. `kept` is asked only of a line that is
+-- due and has at most `most` bytes, without its LF; `passed` has a claim where the last line was passed.
 pub record Format (D W C : Type 0) : Type 0 where
   pub start : D
   pub kept : D → List ℕ → Result D W

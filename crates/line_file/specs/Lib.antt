@@ -1,6 +1,7 @@
 pub mod Formats
 pub mod FirstRefusal
 pub mod Pieces
+pub mod Grammars
 pub mod Keeping
 pub mod Held
 pub mod Sources

@@ -1,8 +1,8 @@
 -- Files whose bytes come in pieces.
 --
 -- What a checker holds is a function of the bytes that came, and not of the pieces in which they did: what is
--- due behind their lines, with the bytes behind the last LF, which may begin a line; or the refusal, as soon as
--- no bytes that follow can take it back.
+-- due behind their lines, with the bytes behind the last LF, which may begin a line; or the refusal, as soon
+-- as no bytes that follow can take it back.
 -- Source: this project's own.
 --
 --   Held                  what a checker may hold: it is reading, it has refused, or memory ran out
@@ -27,7 +27,8 @@ pub data Held (D W : Type 0) : Type 0 where
 abbrev pub held_behind : {D W C : Type 0} → Format D W C → Option C → ℕ → D → List ℕ → Held D W
 held_behind f (Some claim) k now [] = is_reading k now []
 held_behind f (Some claim) k now (byte ∷ rest) = was_refused k f.extra
-held_behind f None k now rest = if nat_lt f.most (length rest) then was_refused k f.long else is_reading k now rest
+held_behind f None k now rest =
+    if nat_lt f.most (length rest) then was_refused k f.long else is_reading k now rest
 
 -- What is held of lines that were walked and of the bytes behind them.
 abbrev pub held_by : {D W C : Type 0} → Format D W C → Result (ℕ × D) (ℕ × W) → List ℕ → Held D W

@@ -11,8 +11,8 @@ use Rattle.line_file.specs.Formats.{Format, checked_of}
 use Rattle.line_file.specs.declared.source.SourceErr.{SourceErr}
 use Rattle.line_file.specs.declared.source.SourceErr.TheVariants.{Refused, TooLarge, Fault, Memory}
 
--- A claim and a refusal are those of all bytes. At most one byte past the limit was taken, and exactly that where
--- there are too many, whatever the lines before it are.
+-- A claim and a refusal are those of all bytes. At most one byte past the limit was taken, and exactly that
+-- where there are too many, whatever the lines before it are.
 abbrev pub Checks
     : {D W C : Type 0}
     → Format D W C
@@ -24,7 +24,10 @@ abbrev pub Checks
 Checks f limit old new (Ok claim) =
     (bytes : List ℕ) × (length bytes ≤ limit) × ReadsAll old new bytes × (checked_of f bytes ≡ Ok claim)
 Checks f limit old new (Err (Refused line why)) =
-    (bytes : List ℕ) × (length bytes ≤ limit) × ReadsAll old new bytes × (checked_of f bytes ≡ Err (line, why))
+    (bytes : List ℕ)
+    × (length bytes ≤ limit)
+    × ReadsAll old new bytes
+    × (checked_of f bytes ≡ Err (line, why))
 Checks f limit old new (Err TooLarge) = Skips old new (limit + 1)
 Checks f limit old new (Err Fault) = (n : ℕ) × (n ≤ limit) × Skips old new n
 Checks f limit old new (Err Memory) = (n : ℕ) × (n ≤ limit + 1) × Skips old new n

@@ -1,5 +1,5 @@
 // A checker holds what is due, the bytes of a line that isn't ended, and no other bytes.
-ghost use Rattle.std.specs.Prelude.{◌≡◌, ◌++◌, ◌∷◌, List, ℕ, [], Some, IfOk, OnOk, MatchOption};
+ghost use Rattle.std.specs.Prelude.{◌≡◌, ◌≤◌, ◌++◌, ◌∷◌, List, ℕ, [], Some, IfOk, OnOk, MatchOption};
 ghost use Rattle.wb_base.specs.Lines.{cut};
 ghost use Rattle.line_file.specs.Formats.{kept_line, checked_of};
 ghost use Rattle.line_file.specs.Pieces.{Held, is_reading, held_behind, held_of, held_from, onto_front, fed, finished, length_held, Comes, StandsFor};
@@ -174,12 +174,15 @@ fn end<F: LineFormat>(kept: Kept<F>) -> Result<F::Claim, FileErr<F::Why>>
 }
 
 impl<F: LineFormat> Model for Checker<F> {
+    ghost use Rattle.std.specs.Prelude.{◌≤◌};
     ghost use Rattle.line_file.specs.Pieces.{Held, length_held};
     ghost use Rattle.line_file.specs.Held.{held_in};
 
     ghost Value = { Held F F.Why };
 
     ghost view = { λ c. held_in c.kept };
+
+    ghost invariant = { λ c. length_held (held_in c.kept) ≤ F.format.most };
 }
 
 impl<F: LineFormat> Checker<F> {
@@ -221,9 +224,10 @@ impl<F: LineFormat> Checker<F> {
         end(self.kept)
     }
 
-    /// How many bytes it holds of a line that isn't ended.
+    /// How many bytes it holds of a line that isn't ended: at most as many as a line may have.
     pub fn held(&self) -> usize
-        ensures { result ≡ length_held self.now }
+        ensures value { result ≡ length_held self.now }
+        ensures within { length_held self.now ≤ F.format.most }
     {
         match &self.kept {
             Kept::Reading { rest, .. } => rest.len(),

@@ -6,8 +6,8 @@ ghost use Rattle.line_file.specs.Pieces.{held_of, was_refused, fed, finished, le
 
 use crate::format::LineFormat;
 
-/// A file claims something exactly where all its lines are kept and the last one is passed at its end, is refused
-/// exactly at its first refusal, and has one of these alone.
+/// A file claims something exactly where all its lines are kept and the last one is passed at its end, is
+/// refused exactly at its first refusal, and has one of these alone.
 ///
 /// The law is the contract. Formats of lines are this project's.
 pub fn law_first_refusal<F: LineFormat>()
@@ -21,8 +21,8 @@ pub fn law_first_refusal<F: LineFormat>()
         → HasNoRefusal F.format bytes ↔ ((claim : F.Claim) × IsClaimed F.format bytes claim) }
 {}
 
-/// What is held of some bytes doesn't depend on the pieces in which they come; it is no more than a line may have,
-/// its end is the check of the file, and what it refuses is refused whatever follows.
+/// What is held of some bytes doesn't depend on the pieces in which they come; it is no more than a line may
+/// have, its end is the check of the file, and what it refuses is refused whatever follows.
 ///
 /// The law is the contract. Formats of lines are this project's.
 pub fn law_pieces<F: LineFormat>()

@@ -1,6 +1,7 @@
 -- Worked rows of steps, and of files that are accepted or refused.
 use Rattle.std.proofs.Common.{◌≡◌, ℕ, zero, suc, ◌+◌, ◌<◌, ◌≤◌, ◌⊎◌, true, false, List, [], ◌∷◌, ◌++◌, length, map, replicate, codes, Ok, Err, refl, ap, arith}
 use mathlib.Core.Bool.{xor}
+use Rattle.line_file.specs.Formats.{checked_of as file_checked_of}
 use Rattle.braid_word.specs.Words.{Letter, letter}
 use Rattle.braid_word.specs.Notation.{strict_word_of}
 use Rattle.handle_find.specs.Handles.{at, reduct}
@@ -11,7 +12,7 @@ use Rattle.trace_format.specs.TraceLines.{line_of}
 use Rattle.trace_check.specs.declared.checked.Why.TheVariants.{Form, Header, Step, Long, Witness, Sign, Truncated, Extra}
 use Rattle.trace_check.specs.States as due
 use Rattle.trace_check.specs.Accepted.{IsCommutation, IsSteps}
-use Rattle.trace_check.specs.Checking.{stepped, kept, checked_of}
+use Rattle.trace_check.specs.Checking.{stepped, checked_of}
 use Rattle.trace_check.specs.FirstRefusal.{IsFirstRefusal}
 
 -- ---- Steps ----
@@ -153,7 +154,7 @@ accepted_row
       witness = letter 1 false ∷ letter 2 true ∷ [];
       steps = 2;
     }
-unfolding checked_of kept line_of strict_word_of reduct xor
+unfolding file_checked_of line_of strict_word_of reduct xor
 accepted_row = refl
 
 -- that of x(xx) and (xx)(xx), which are one by the law
@@ -167,7 +168,7 @@ terms_row
       witness = [];
       steps = 4;
     }
-unfolding checked_of kept line_of strict_term_of reduct xor
+unfolding file_checked_of line_of strict_term_of reduct xor
 terms_row = refl
 
 -- that of `1 2` and `2 1` with line 4 changed, to no handle and to a place with a leading zero, with the
@@ -180,7 +181,7 @@ refused_rows
     (codes "h 2 4\nh 1 2\nverdict greater\nwitness 1 -2\nend\n" ∷
     (codes "h 2 4\nh 1 2\nverdict less\nwitness 1\nend\n" ∷ []))))
     ≡ Err (4, Step) ∷ Err (4, Form) ∷ Err (7, Sign) ∷ Err (7, Witness) ∷ []
-unfolding checked_of kept line_of strict_word_of reduct xor
+unfolding file_checked_of line_of strict_word_of reduct xor
 refused_rows = refl
 
 -- a mixed witness goes with no verdict; another one isn't the present word, which is said first
@@ -188,7 +189,7 @@ mixed_rows
     : map (λ witness. checked_of (codes "braid-trace 1\nleft 1\nright 1\nverdict equal\n" ++ witness))
     (codes "witness -1 1\n" ∷ (codes "witness 1 -1\n" ∷ []))
     ≡ Err (5, Sign) ∷ Err (5, Witness) ∷ []
-unfolding checked_of kept line_of strict_word_of
+unfolding file_checked_of line_of strict_word_of
 mixed_rows = refl
 
 -- no bytes, an end without its LF, and an empty line behind the end
@@ -197,12 +198,12 @@ ending_rows
     ([] ∷ (codes "braid-trace 1\nleft\nright\nverdict equal\nwitness\nend" ∷
     (codes "braid-trace 1\nleft\nright\nverdict equal\nwitness\nend\n\n" ∷ [])))
     ≡ Err (1, Truncated) ∷ Err (6, Truncated) ∷ Err (7, Extra) ∷ []
-unfolding checked_of kept line_of
+unfolding file_checked_of line_of
 ending_rows = refl
 
 -- the right line where the left one is due is the first refusal, at line 2
 header_row : IsFirstRefusal (codes "braid-trace 1\nright\nend\n") 2 Header
-unfolding kept line_of
+unfolding line_of
 header_row = record {
   before = codes "braid-trace 1" ∷ [];
   others = codes "right" ∷ (codes "end" ∷ []);

@@ -2,11 +2,11 @@
 --
 -- It claims something exactly where it is accepted: `checked_of-accepted` and `accepted-checked_of`. What
 -- it claims is then what the trace claims (`counted-claim`).
-use Rattle.std.proofs.Common.{◌≡◌, ℕ, ◌+◌, ◌-◌, ◌^◌, ◌<◌, ◌≤◌, min, List, [], ◌∷◌, ◌++◌, append_assoc, length, length-append, map, flat_map, Some, Result, Ok, Err, IfOk, refl, sym, ap, ap₂, ◌∙◌, subst, arith}
-use Rattle.std.specs.List.{AllByRecursion}
-use Rattle.std.proofs.lemmas.List.{append-nil, length-map}
+use Rattle.std.proofs.Common.{◌≡◌, ℕ, ◌+◌, ◌-◌, ◌^◌, ◌<◌, ◌≤◌, min, List, [], ◌∷◌, length, length-append, map, flat_map, Some, Result, Ok, Err, IfOk, refl, sym, ap, ◌∙◌, subst, arith}
+use Rattle.std.proofs.lemmas.List.{length-map}
 use Rattle.wb_base.specs.Streams.{one_more}
-use Rattle.wb_base.specs.Lines.{cut, line}
+use Rattle.wb_base.specs.Lines.{line}
+use Rattle.line_file.proofs.GrammarLaws.{checked_of-IsSaid, IsSaid-checked_of}
 use Rattle.braid_word.specs.Words.{Letter, quotient}
 use Rattle.braid_word.specs.Notation.{IsReadable}
 use Rattle.braid_word.proofs.WordLemmas.{length-quotient}
@@ -19,20 +19,20 @@ use Rattle.trace_format.specs.Said.{Said}
 use Rattle.trace_format.specs.Said as said
 use Rattle.trace_format.specs.Verdicts.{verdict_of}
 use Rattle.trace_format.specs.TraceText.{Header, words, terms, Trace, trace_text}
-use Rattle.trace_format.specs.TraceLines.{line_text, IsShortTerm, IsLine, IsHeader, IsTrace}
-use Rattle.trace_format.proofs.LineLaws.{line_text-no_lf}
+use Rattle.trace_format.specs.TraceLines.{line_text, IsShortTerm, IsHeader, IsTrace}
 use Rattle.trace_format.proofs.TraceLaws.{tail_lines, step_lines, left_line, right_line, trace_lines, trace_text-lines}
 use Rattle.trace_check.specs.Accepted.{left_word, right_word, quotient_of, IsSteps, IsAccepted, Claim, claim_of, IsValid}
-use Rattle.trace_check.specs.Checking.{walk, checked_of, Gives}
-use Rattle.trace_check.specs.declared.checked.CheckErr.{CheckErr}
+use Rattle.line_file.specs.Keeping.{Gives}
+use Rattle.trace_check.specs.Checking.{trace_file, checked_of}
+use Rattle.line_file.specs.declared.format.FileErr.{FileErr}
+use Rattle.trace_check.specs.declared.checked.Why.{Why}
 use Rattle.trace_check.specs.States.{State}
 use Rattle.trace_check.specs.States as due
 use Rattle.trace_check.proofs.AcceptedLemmas.{IsValid-accepted}
 use Rattle.trace_check.proofs.VerdictLemmas.{Shows-verdict_of, verdict_of-Shows}
-use Rattle.trace_check.proofs.CuttingLemmas.{cut-line, joined, cut-is}
-use Rattle.trace_check.proofs.KeptLaws.{begun}
-use Rattle.trace_check.proofs.WalkLaws.{Leads, walk-Leads, Leads-walk}
-use Rattle.trace_check.proofs.LeadsLaws.{counted, Leads-Step, IsSteps-Leads}
+use Rattle.trace_check.proofs.KeptLaws.{begun, trace_grammar}
+use Rattle.trace_check.proofs.FollowsLaws.{IsGrammarOf-trace}
+use Rattle.trace_check.proofs.LeadsLaws.{Leads, counted, Leads-Step, IsSteps-Leads}
 
 -- ---- A whole file ----
 
@@ -172,42 +172,17 @@ IsAccepted-Leads bytes t is = (
       is.bounds.steps is.bounds.witness is.steps (verdict_of-Shows t.verdict t.witness is.shown)),
 )
 
--- the texts of lines are cut into these again
-cut-lines
-    : (all : List Said)
-    → AllByRecursion IsLine all
-    → cut (flat_map line (map line_text all)) ≡ (map line_text all, [])
-cut-lines [] are = refl
-cut-lines (l ∷ all) are =
-    ap cut (append_assoc (line_text l) (10 ∷ []) (flat_map line (map line_text all)))
-    ∙ cut-line (line_text l) (flat_map line (map line_text all)) (line_text-no_lf l are.0)
-    ∙ ap (λ (r : List (List ℕ) × List ℕ). (line_text l ∷ r.0, r.1)) (cut-lines all are.1)
-
--- lines that lead somewhere can be said
-Leads-IsLine
-    : (now : State) (all : List Said) (claim : Claim)
-    → Leads now all claim
-    → AllByRecursion IsLine all
-Leads-IsLine now [] claim leads = tt
-Leads-IsLine now (l ∷ all) claim (next, bounds, follows, leads) =
-    (bounds, Leads-IsLine next all claim leads)
-
 -- a file that claims something is accepted
 pub checked_of-accepted
     : (bytes : List ℕ) (claim : Claim)
     → checked_of bytes ≡ Ok claim
     → (t : Trace) × IsAccepted bytes t × (claim ≡ counted_claim t)
-unfolding checked_of
 checked_of-accepted bytes claim is =
-    let walked = walk-Leads 1 due.start (cut bytes).0 (cut bytes).1 claim is in
-    let traced = Leads-Start walked.all claim walked.leads in
-    let text : joined (cut bytes) ≡ trace_text traced.trace
-    = ap₂ (λ ls rest. flat_map line ls ++ rest) walked.texts walked.ended
-    ∙ append-nil (flat_map line (map line_text walked.all))
-    ∙ ap (λ all. flat_map line (map line_text all)) traced.lines_are
-    ∙ sym (trace_text-lines traced.trace) in
+    let said = checked_of-IsSaid trace_file trace_grammar bytes claim IsGrammarOf-trace is in
+    let traced = Leads-Start said.all claim said.leads in
     let accepted : IsAccepted bytes traced.trace = record {
-      text = sym (cut-is bytes) ∙ text;
+      text = said.text ∙ ap (λ all. flat_map line (map line_text all)) traced.lines_are
+          ∙ sym (trace_text-lines traced.trace);
       bounds = traced.bounds;
       short = traced.short;
       steps = traced.steps;
@@ -220,14 +195,12 @@ pub accepted-checked_of
     : (bytes : List ℕ) (t : Trace)
     → IsAccepted bytes t
     → checked_of bytes ≡ Ok (counted_claim t)
-unfolding checked_of
 accepted-checked_of bytes t is =
-    let leads = IsAccepted-Leads bytes t is in
-    let parts : cut bytes ≡ (map line_text (trace_lines t), [])
-    = ap cut (is.text ∙ trace_text-lines t)
-    ∙ cut-lines (trace_lines t) (Leads-IsLine due.start (trace_lines t) (counted_claim t) leads) in
-    ap (λ (r : List (List ℕ) × List ℕ). walk 1 due.start r.0 r.1) parts
-    ∙ Leads-walk 1 due.start (trace_lines t) (counted_claim t) leads
+    IsSaid-checked_of trace_file trace_grammar bytes (counted_claim t) IsGrammarOf-trace (record {
+      all = trace_lines t;
+      text = is.text ∙ trace_text-lines t;
+      leads = IsAccepted-Leads bytes t is;
+    })
 
 -- ---- The number of steps ----
 
@@ -276,7 +249,7 @@ counted-claim bytes t text short =
 
 -- what it claims is what an accepted trace claims, which is valid
 pub IfOk-accepted
-    : (bytes : List ℕ) (result : Result Claim CheckErr)
+    : (bytes : List ℕ) (result : Result Claim (FileErr Why))
     → length bytes < 2 ^ 64
     → Gives result (checked_of bytes)
     → IfOk result (λ claim. (t : Trace) × IsAccepted bytes t × IsValid t × (claim ≡ claim_of t))
@@ -287,7 +260,7 @@ IfOk-accepted bytes (Err e) short gives = tt
 
 -- what is accepted isn't refused
 pub Gives-accepted
-    : (bytes : List ℕ) (result : Result Claim CheckErr)
+    : (bytes : List ℕ) (result : Result Claim (FileErr Why))
     → length bytes < 2 ^ 64
     → Gives result (checked_of bytes)
     → (t : Trace)

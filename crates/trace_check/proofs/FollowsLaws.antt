@@ -1,6 +1,7 @@
--- What may follow is kept, where its line isn't too long (`Follows-kept`).
-use Rattle.std.proofs.Common.{◌≡◌, ◌||◌, Bool, true, false, Option, Result, Ok, refl, sym, ap, ◌∙◌}
+-- What may follow is kept, and so trace files are files of lines with a grammar (`IsGrammarOf-trace`).
+use Rattle.std.proofs.Common.{◌≡◌, ◌||◌, Bool, true, false, Option, None, Result, Ok, refl, sym, ap, ◌∙◌}
 use Rattle.std.proofs.lemmas.Bool.{le-ltb}
+use Rattle.line_file.specs.Grammars.{IsGrammarOf}
 use Rattle.braid_word.specs.Sign.{sign_of}
 use Rattle.trace_format.specs.declared.line.Kind.{Kind}
 use Rattle.trace_format.specs.declared.line.Kind.TheVariants as kinds
@@ -9,8 +10,8 @@ use Rattle.trace_format.specs.Said as said
 use Rattle.trace_format.specs.Verdicts.{verdict_of}
 use Rattle.trace_format.specs.TraceLines.{kind_of, line_of, line_text, IsLine}
 use Rattle.trace_format.proofs.KeywordLaws.{kind_of-line_text}
-use Rattle.trace_format.proofs.LineLaws.{line_of-line_text}
-use Rattle.trace_check.specs.Checking.{is_kind, moved, kept_left, kept_right, kept_right_term, kept_step, kept_witness, of_kind, kept_short, kept}
+use Rattle.trace_format.proofs.LineLaws.{line_of-line_text, line_text-no_lf}
+use Rattle.trace_check.specs.Checking.{is_kind, moved, kept_left, kept_right, kept_right_term, kept_step, kept_witness, of_kind, kept_short, claim_passed, trace_file}
 use Rattle.trace_check.specs.declared.checked.Why.{Why}
 use Rattle.trace_check.specs.declared.checked.Why.TheVariants.{Header}
 use Rattle.trace_check.specs.States.{State}
@@ -18,7 +19,7 @@ use Rattle.trace_check.specs.States as due
 use Rattle.trace_check.proofs.KeepLemmas.{Decides-word_eq, Decides-gives_verdict}
 use Rattle.trace_check.proofs.LineLengths.{length-line_text}
 use Rattle.trace_check.proofs.StepLaws.{IsStep-stepped}
-use Rattle.trace_check.proofs.KeptLaws.{Follows, kept-short}
+use Rattle.trace_check.proofs.KeptLaws.{Follows, trace_grammar, kept_short-Follows}
 
 -- ---- What may follow is kept ----
 
@@ -75,12 +76,25 @@ kept_short-line_text (due.finish replay verdict) said.finish next bounds follows
     ap (λ d. Ok d) (sym follows)
 kept_short-line_text now l next bounds follows = absurd follows
 
--- what may follow is kept
-pub Follows-kept
-    : (now : State) (l : Said) (next : State)
-    → IsLine l
-    → Follows now l next
-    → kept now (line_text l) ≡ Ok next
-Follows-kept now l next bounds follows =
-    kept-short now (line_text l) (length-line_text l bounds)
-    ∙ kept_short-line_text now l next bounds follows
+-- ---- Trace files as files of lines ----
+
+-- what may follow is said where a line is due
+Follows-due : (now next : State) (l : Said) → Follows now l next → claim_passed now ≡ None
+Follows-due due.start next l follows = refl
+Follows-due due.left next l follows = refl
+Follows-due (due.right u) next l follows = refl
+Follows-due (due.right_term u) next l follows = refl
+Follows-due (due.step replay) next l follows = refl
+Follows-due (due.witness replay verdict) next l follows = refl
+Follows-due (due.finish replay verdict) next l follows = refl
+Follows-due (due.passed claim) next l follows = absurd follows
+
+-- a trace file has the lines that may be said
+pub IsGrammarOf-trace : IsGrammarOf trace_file trace_grammar
+IsGrammarOf-trace = record {
+  says = λ now next line is. kept_short-Follows now line next is;
+  keeps = λ now next l bounds follows. kept_short-line_text now l next bounds follows;
+  due = Follows-due;
+  short = length-line_text;
+  no_lf = line_text-no_lf;
+}

@@ -1,6 +1,9 @@
 -- Laws of what is due after one line, for the code that keeps it.
-use Rattle.std.proofs.Common.{◌≡◌, ℕ, ◌-◌, ◌<◌, ◌≤◌, ◌^◌, min, true, false, ltb, inl, inr, List, length, Option, Some, None, Ok, Err, refl, sym, ◌∙◌, ap, ap₂, ◌==◌, subst, arith}
+use Rattle.std.proofs.Common.{◌≡◌, ℕ, ◌-◌, ◌<◌, ◌≤◌, ◌^◌, min, true, false, ltb, inl, inr, List, length, slice_get, Option, Some, None, Ok, Err, refl, sym, ◌∙◌, ap, ap₂, ◌==◌, subst, arith}
 use Rattle.std.proofs.lemmas.Bool.{lt-ltb, le-ltb, ltb-true, eq-eqb, eqb-true, cases_Bool, and_parts, and_from}
+use Rattle.std.specs.Option.{unwrap_or}
+use Rattle.std.proofs.lemmas.Option.{unwrap_or-slice_get}
+use Rattle.std.proofs.lemmas.List.{same_lists}
 use Rattle.std.specs.Bool.{Decides}
 use Rattle.std.specs.Cmp.{booleans_Decides}
 use Rattle.std.proofs.lemmas.Slice.Eq.{slice_eq-Decides}
@@ -38,6 +41,16 @@ Decides-letter_eq x y = (
 -- the test of two words
 pub Decides-word_eq : (u v : List Letter) → Decides (word_eq u v) (u ≡ v)
 Decides-word_eq u v = slice_eq-Decides Decides-letter_eq u v (word_eq u v) refl
+
+-- words of one length that agree at each place are one
+pub agreeing_words
+    : (u v : List Letter)
+    → length u ≡ length v
+    → ((k : ℕ) → k < length u → slice_get v k ≡ slice_get u k)
+    → u ≡ v
+agreeing_words u v size same = same_lists u v size (λ k d below.
+    sym (unwrap_or-slice_get u k d) ∙ ap (λ o. unwrap_or o d) (sym (same k below))
+    ∙ unwrap_or-slice_get v k d)
 
 -- the test of a verdict
 verdict_eq-true : (v d : Verdict) → verdict_eq v d ≡ true → v ≡ d

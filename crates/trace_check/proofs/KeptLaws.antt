@@ -1,12 +1,13 @@
 -- What is due after a line that is kept.
 --
 -- A line is kept exactly where it is the text of what may be said there, and then what is due follows from
--- that: `kept-Follows`, and `Follows-kept` of `FollowsLaws`.
-use Rattle.std.proofs.Common.{◌≡◌, ℕ, ◌≤◌, ◌||◌, Bool, true, false, cond, ltb, List, length, codes, Some, Result, Ok, Err, refl, sym, ap, ◌∙◌}
+-- that: `kept_short-Follows`, and `kept_short-line_text` of `FollowsLaws`.
+use Rattle.std.proofs.Common.{◌≡◌, ℕ, ◌≤◌, ◌||◌, Bool, true, false, cond, ltb, List, length, codes, Some, Result, Ok, Err, refl, sym}
 use Rattle.std.specs.Str.{bytes_eq}
-use Rattle.std.proofs.lemmas.Bool.{le-ltb, ltb-false}
+use Rattle.std.proofs.lemmas.Bool.{ltb-false}
 use Rattle.std.proofs.lemmas.Slice.Eq.{bytes_eq-Decides}
 use Rattle.wb_base.specs.Streams.{one_more}
+use Rattle.line_file.specs.Grammars.{Grammar, Says}
 use Rattle.braid_word.specs.Words.{Letter, quotient}
 use Rattle.braid_word.specs.Sign.{sign_of}
 use Rattle.braid_word.specs.declared.TheConstants.{MAX_LETTERS}
@@ -22,8 +23,7 @@ use Rattle.trace_format.specs.Verdicts.{verdict_of}
 use Rattle.trace_format.specs.TraceLines.{kind_of, line_of, line_text, IsStepLine, IsLine}
 use Rattle.trace_format.proofs.LineLaws.{line_of-is}
 use Rattle.trace_check.specs.Accepted.{IsStep}
-use Rattle.trace_check.specs.Checking.{word_eq, gives_verdict, is_kind, stepped, stepped_to, with_word, begun_with, claimed, moved, shown, kept_start, kept_left, kept_right, kept_right_term, kept_step, kept_witness, kept_finish, of_kind, kept_unless_long, kept_short, kept}
-use Rattle.trace_check.specs.declared.TheConstants.{MAX_LINE}
+use Rattle.trace_check.specs.Checking.{word_eq, gives_verdict, is_kind, stepped, stepped_to, with_word, begun_with, claimed, moved, shown, kept_start, kept_left, kept_right, kept_right_term, kept_step, kept_witness, kept_finish, of_kind, kept_short}
 use Rattle.trace_check.specs.declared.checked.Why.{Why}
 use Rattle.trace_check.specs.declared.checked.Why.TheVariants.{Long, Sign, Witness}
 use Rattle.trace_check.specs.States.{Replay, State}
@@ -67,63 +67,13 @@ Follows (due.witness replay verdict) (said.witness w) next =
 Follows (due.finish replay verdict) said.finish next = next ≡ due.passed (claimed replay verdict)
 Follows now l next = ⊥
 
+-- What the lines of a trace file may say.
+abbrev pub trace_grammar : Grammar State Said
+trace_grammar = record { text = line_text; can = IsLine; follows = Follows }
+
 -- A line says something that may follow.
-pub record IsKept (now : State) (line : List ℕ) (next : State) : Type 0 where
-  pub says : Said
-  pub text : line ≡ line_text says
-  pub bounds : IsLine says
-  pub follows : Follows now says next
-
--- ---- Lines that aren't too long ----
-
--- where no line is too long it is as where this one isn't
-kept_unless_long-false
-    : (now : State) (line : List ℕ)
-    → kept_unless_long false now line ≡ kept_short now line
-kept_unless_long-false due.start line = refl
-kept_unless_long-false due.left line = refl
-kept_unless_long-false (due.right left) line = refl
-kept_unless_long-false (due.right_term left) line = refl
-kept_unless_long-false (due.step replay) line = refl
-kept_unless_long-false (due.witness replay verdict) line = refl
-kept_unless_long-false (due.finish replay verdict) line = refl
-kept_unless_long-false (due.passed claim) line = refl
-
--- a line that is too long isn't kept
-kept_unless_long-true
-    : (now : State) (line : List ℕ) (next : State)
-    → kept_unless_long true now line ≡ Ok next
-    → ⊥
-kept_unless_long-true due.start line next is = cc
-kept_unless_long-true due.left line next is = cc
-kept_unless_long-true (due.right left) line next is = cc
-kept_unless_long-true (due.right_term left) line next is = cc
-kept_unless_long-true (due.step replay) line next is = cc
-kept_unless_long-true (due.witness replay verdict) line next is = cc
-kept_unless_long-true (due.finish replay verdict) line next is = cc
-kept_unless_long-true (due.passed claim) line next is = cc
-
--- a line that isn't too long
-pub kept-short
-    : (now : State) (line : List ℕ)
-    → length line ≤ MAX_LINE
-    → kept now line ≡ kept_short now line
-unfolding kept
-kept-short now line short =
-    ap (λ long. kept_unless_long long now line) (le-ltb MAX_LINE (length line) short)
-    ∙ kept_unless_long-false now line
-
--- a line that is kept isn't too long
-kept-Ok
-    : (now : State) (line : List ℕ) (next : State)
-    → kept now line ≡ Ok next
-    → kept_short now line ≡ Ok next
-unfolding kept
-kept-Ok now line next is = go (ltb MAX_LINE (length line)) is
-  where
-    go : (long : Bool) → kept_unless_long long now line ≡ Ok next → kept_short now line ≡ Ok next
-    go true is = absurd (kept_unless_long-true now line next is)
-    go false is = sym (kept_unless_long-false now line) ∙ is
+abbrev pub IsKept : State → List ℕ → State → Type 0
+IsKept now line next = Says trace_grammar now line next
 
 -- ---- What is kept may follow ----
 
@@ -135,7 +85,7 @@ said-kept
     → IsKept now line next
 said-kept now line l next read follows =
     let is = line_of-is line l read in
-    record { says = l; text = is.text; bounds = is.bounds; follows = follows }
+    record { what = l; text = is.text; can = is.bounds; follows = follows }
 
 -- a line of the kind that is due
 of_kind-Ok
@@ -153,9 +103,9 @@ text-kept
     → Follows now l next
     → IsKept now line next
 text-kept now line l next test bounds follows = record {
-  says = l;
+  what = l;
   text = (bytes_eq-Decides line (line_text l)).0 test;
-  bounds = bounds;
+  can = bounds;
   follows = follows;
 }
 
@@ -338,7 +288,8 @@ kept_finish-Follows replay verdict line next true test is =
     text-kept (due.finish replay verdict) line said.finish next test tt (sym (Ok-injective _ _ is))
 kept_finish-Follows replay verdict line next false test is = absurd (cc)
 
-kept_short-Follows
+-- a line that is kept says something that may follow
+pub kept_short-Follows
     : (now : State) (line : List ℕ) (next : State)
     → kept_short now line ≡ Ok next
     → IsKept now line next
@@ -358,10 +309,3 @@ kept_short-Follows (due.witness replay verdict) line next is =
 kept_short-Follows (due.finish replay verdict) line next is =
     kept_finish-Follows replay verdict line next _ refl is
 kept_short-Follows (due.passed claim) line next is = absurd (cc)
-
--- a line that is kept says something that may follow
-pub kept-Follows
-    : (now : State) (line : List ℕ) (next : State)
-    → kept now line ≡ Ok next
-    → IsKept now line next
-kept-Follows now line next is = kept_short-Follows now line next (kept-Ok now line next is)

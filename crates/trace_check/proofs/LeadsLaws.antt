@@ -2,6 +2,8 @@
 use Rattle.std.proofs.Common.{◌≡◌, ℕ, List, [], ◌∷◌, Some, refl, sym, ap, ap₂, subst}
 use Rattle.std.specs.List.{AllByRecursion}
 use Rattle.wb_base.specs.Streams.{one_more}
+use Rattle.wb_base.proofs.PartLemmas.{Some-injective}
+use Rattle.line_file.specs.Grammars as grammars
 use Rattle.braid_word.specs.Words.{Letter}
 use Rattle.braid_word.specs.Notation.{IsReadable}
 use Rattle.braid_word.specs.Sign.{sign_of}
@@ -13,11 +15,14 @@ use Rattle.trace_format.specs.Verdicts.{verdict_of}
 use Rattle.trace_format.specs.TraceLines.{IsStepLine}
 use Rattle.trace_format.proofs.TraceLaws.{tail_lines, step_lines}
 use Rattle.trace_check.specs.Accepted.{IsSteps, Claim}
-use Rattle.trace_check.specs.Checking.{claimed}
-use Rattle.trace_check.specs.States.{Replay}
+use Rattle.trace_check.specs.Checking.{claimed, trace_file}
+use Rattle.trace_check.specs.States.{Replay, State}
 use Rattle.trace_check.specs.States as due
-use Rattle.trace_check.proofs.KeptLaws.{at_word}
-use Rattle.trace_check.proofs.WalkLaws.{Leads}
+use Rattle.trace_check.proofs.KeptLaws.{at_word, trace_grammar}
+
+-- The lines lead from what is due to the end of the file, and to what it claims.
+abbrev pub Leads : State → List Said → Claim → Type 0
+Leads now all claim = grammars.Leads trace_file trace_grammar now all claim
 
 -- ---- Steps, verdict, witness and end ----
 
@@ -53,10 +58,7 @@ Leads-Passed
     : (c : Claim) (all : List Said) (claim : Claim)
     → Leads (due.passed c) all claim
     → (all ≡ []) × (claim ≡ c)
-Leads-Passed c [] claim leads = (refl, (let same : c ≡ claim = Passed-injective c claim leads in sym same))
-  where
-    Passed-injective : (c d : Claim) → due.passed c ≡ due.passed d → c ≡ d
-    Passed-injective c d same = cc
+Leads-Passed c [] claim leads = (refl, sym (Some-injective leads))
 Leads-Passed c (l ∷ all) claim (next, bounds, follows, leads) = absurd follows
 
 -- so does the line of the end
@@ -152,7 +154,7 @@ IsSteps-Leads replay [] verdict witness bounds readable leads sign = (
       due.passed (claimed replay verdict),
       tt,
       refl,
-      ap (λ w. due.passed (record (claimed replay verdict) { witness = w })) (sym leads),
+      ap (λ w. Some (record (claimed replay verdict) { witness = w })) (sym leads),
     ),
   ),
 )

@@ -1,10 +1,10 @@
-pub mod CuttingLemmas
 pub mod KeepLemmas
 pub mod LineLengths
 pub mod StepLaws
+pub mod TakingLemmas
+pub mod ReductionLemmas
 pub mod KeptLaws
 pub mod FollowsLaws
-pub mod WalkLaws
 pub mod LeadsLaws
 pub mod CheckingLaws
 pub mod VerdictLemmas

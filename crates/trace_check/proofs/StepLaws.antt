@@ -92,13 +92,13 @@ beq-not true = refl
 beq-not false = refl
 
 -- letters that pass the test are inverse to each other
-are_inverse-true : (x y : Letter) → are_inverse x y ≡ true → y ≡ opposite x
+pub are_inverse-true : (x y : Letter) → are_inverse x y ≡ true → y ≡ opposite x
 are_inverse-true x y pass =
     let (index, sign) = and_parts (y.index == x.index) (not (have_one_sign x y)) pass in
     ap₂ letter (eqb-true y.index x.index index) (beq-false y.negative x.negative sign)
 
 -- letters inverse to each other pass it
-are_inverse-from : (x : Letter) → are_inverse x (opposite x) ≡ true
+pub are_inverse-from : (x : Letter) → are_inverse x (opposite x) ≡ true
 are_inverse-from x = and_from _ _ (eq-eqb x.index x.index refl) (beq-not x.negative)
 
 -- ---- The new word ----

@@ -6,20 +6,20 @@
 -- Source: this project's own.
 --
 --   stepped w step       the word that a step leads to, or why it leads to none
---   kept due line        what is due after a line, or why it can't be kept
---   walk k due ls rest   what the lines from number k on give, and what stands behind the last LF
+-- kept_short due line  what is due after a line that isn't too long, or why it can't be kept trace_file
+-- trace files as files of lines: with this, and the causes of what no such file may have
 --   checked_of bytes     what a file claims, or the line and the cause of its first refusal
 --
--- The first refusal without the walk is `IsFirstRefusal` in `FirstRefusal.antt`.
+-- The first refusal in the words of lines is `IsFirstRefusal` in `FirstRefusal.antt`.
 -- That it claims something exactly where it is accepted is `accepted-checked_of` and `checked_of-accepted`
 -- in `proofs/CheckingLaws.antt`.
-use Rattle.std.specs.Prelude.{◌≡◌, ℕ, ◌+◌, ◌-◌, ◌==◌, ◌&&◌, ◌||◌, nat_lt, Bool, true, false, not, if◌then◌else◌, List, [], ◌∷◌, ◌++◌, length, take, drop, codes, Option, Some, None, Result, Ok, Err}
+use Rattle.std.specs.Prelude.{ℕ, ◌+◌, ◌-◌, ◌==◌, ◌&&◌, ◌||◌, nat_lt, Bool, true, false, not, if◌then◌else◌, List, ◌∷◌, ◌++◌, length, take, drop, codes, Option, Some, None, Result, Ok, Err}
 use Rattle.std.specs.Bool.{beq}
 use Rattle.std.specs.Cmp.Lexicographic.{pointwise}
 use Rattle.std.specs.Str.{bytes_eq}
-use Rattle.wb_base.specs.Memory.{UnlessMemory}
 use Rattle.wb_base.specs.Streams.{one_more}
-use Rattle.wb_base.specs.Lines.{cut}
+use Rattle.line_file.specs.Formats.{Format}
+use Rattle.line_file.specs.Formats as files
 use Rattle.braid_word.specs.Words.{Letter, opposite, quotient}
 use Rattle.braid_word.specs.Sign.{sign_of}
 use Rattle.braid_word.specs.declared.TheConstants.{MAX_LETTERS}
@@ -41,8 +41,6 @@ use Rattle.trace_check.specs.Accepted.{Claim}
 use Rattle.trace_check.specs.declared.TheConstants.{MAX_LINE}
 use Rattle.trace_check.specs.declared.checked.Why.{Why}
 use Rattle.trace_check.specs.declared.checked.Why.TheVariants.{Form, Header, Step, Long, Witness, Sign, Truncated, Extra}
-use Rattle.trace_check.specs.declared.checked.CheckErr.{CheckErr}
-use Rattle.trace_check.specs.declared.checked.CheckErr.TheVariants as check_errors
 use Rattle.trace_check.specs.States.{Replay, State}
 use Rattle.trace_check.specs.States as due
 
@@ -242,47 +240,25 @@ kept_short (due.witness replay verdict) line =
 kept_short (due.finish replay verdict) line = kept_finish replay verdict (bytes_eq line (codes "end"))
 kept_short (due.passed claim) line = Err Extra
 
--- What is due after any line.
-abbrev pub kept_unless_long : Bool → State → List ℕ → Result State Why
-kept_unless_long long (due.passed claim) line = Err Extra
-kept_unless_long true now line = Err Long
-kept_unless_long false now line = kept_short now line
-
-unfoldable pub kept : State → List ℕ → Result State Why
-kept now line = kept_unless_long (nat_lt MAX_LINE (length line)) now line
-
 -- ---- All lines ----
 
--- Where the bytes end, behind the last LF.
-abbrev pub at_end : State → List ℕ → Result Claim Why
-at_end (due.passed claim) [] = Ok claim
-at_end (due.passed claim) (byte ∷ rest) = Err Extra
-at_end now rest = if nat_lt MAX_LINE (length rest) then Err Long else Err Truncated
+-- What a file claims whose last line was passed.
+abbrev pub claim_passed : State → Option Claim
+claim_passed (due.passed claim) = Some claim
+claim_passed now = None
 
--- A refusal, at its line.
-abbrev pub at_line : {X : Type 0} → ℕ → Result X Why → Result X (ℕ × Why)
-at_line k (Ok x) = Ok x
-at_line k (Err why) = Err (k, why)
-
--- What is due next goes on; a refusal stays.
-abbrev pub walk_on : ℕ → Result State Why → (State → Result Claim (ℕ × Why)) → Result Claim (ℕ × Why)
-walk_on k (Ok next) go_on = go_on next
-walk_on k (Err why) go_on = Err (k, why)
-
--- The lines from number k on, and then what stands behind the last LF.
-abbrev pub walk : ℕ → State → List (List ℕ) → List ℕ → Result Claim (ℕ × Why)
-walk k now [] rest = at_line k (at_end now rest)
-walk k now (line ∷ ls) rest = walk_on k (kept now line) (λ next. walk (one_more k) next ls rest)
+-- Trace files, as files of lines.
+abbrev pub trace_file : Format State Why Claim
+trace_file = record {
+  start = due.start;
+  kept = kept_short;
+  passed = claim_passed;
+  most = MAX_LINE;
+  extra = Extra;
+  long = Long;
+  truncated = Truncated;
+}
 
 -- What a file claims, or its first refusal. Its lines count from 1.
-unfoldable pub checked_of : List ℕ → Result Claim (ℕ × Why)
-checked_of bytes = walk 1 due.start (cut bytes).0 (cut bytes).1
-
--- The refusal that an error tells, if it tells one.
-abbrev pub refusal_in : CheckErr → Option (ℕ × Why)
-refusal_in check_errors.Memory = None
-refusal_in (check_errors.Refused line why) = Some (line, why)
-
--- What a checker answered is what the file is, unless memory ran out.
-abbrev pub Gives : Result Claim CheckErr → Result Claim (ℕ × Why) → Type 0
-Gives result file = UnlessMemory (λ (claim : Claim). claim) refusal_in result file
+abbrev pub checked_of : List ℕ → Result Claim (ℕ × Why)
+checked_of bytes = files.checked_of trace_file bytes

@@ -1,6 +1,7 @@
 -- What the functions that keep one line answer. No public clause cites this module.
 --
 --   replay_of held          the replay that the code holds
+--   replay_to claim         the replay that has come to a claim
 --   state_of held           the state that the code holds
 --   stop_of error           why a line isn't kept that wasn't read
 --   Keeps result kept       what was answered is what is due, unless memory ran out
@@ -10,6 +11,7 @@ use Rattle.wb_base.specs.Memory.{UnlessMemory}
 use Rattle.braid_word.specs.Words.{Letter}
 use Rattle.trace_format.specs.declared.line.LineErr.{LineErr}
 use Rattle.trace_format.specs.declared.line.LineErr.TheVariants as line_errors
+use Rattle.trace_check.specs.Accepted.{Claim}
 use Rattle.trace_check.specs.Checking.{cause_of}
 use Rattle.trace_check.specs.declared.checked.Why.{Why}
 use Rattle.trace_check.specs.States.{Replay, State}
@@ -24,6 +26,11 @@ use Rattle.trace_check.specs.declared.keep.Stop.TheVariants.{Refused, Memory}
 abbrev pub replay_of : Held → Replay
 replay_of r = record { left = r.left; right = r.right; present = r.present; steps = r.steps }
 
+-- The replay that has come to a claim.
+abbrev pub replay_to : Claim → Replay
+replay_to claim =
+    record { left = claim.left; right = claim.right; present = claim.witness; steps = claim.steps }
+
 abbrev pub state_of : Due → State
 state_of held.Start = due.start
 state_of held.Left = due.left
@@ -31,7 +38,7 @@ state_of (held.Right w) = due.right w
 state_of (held.RightTerm w) = due.right_term w
 state_of (held.Step r) = due.step (replay_of r)
 state_of (held.Witness r verdict) = due.witness (replay_of r) verdict
-state_of (held.Finish r verdict) = due.finish (replay_of r) verdict
+state_of (held.Finish claim) = due.finish (replay_to claim) claim.verdict
 state_of (held.Passed claim) = due.passed claim
 
 abbrev pub stop_of : LineErr → Stop

@@ -1,8 +1,8 @@
 ghost use Rattle.std.specs.Prelude.{◌≡◌};
 
 use braid_word::{Letter, Word};
+use line_file::FileErr;
 use std::marker::Model;
-use thiserror::Error;
 use trace_format::Verdict;
 
 /// Why a line of a trace file is refused.
@@ -26,16 +26,9 @@ pub enum Why {
     Extra,
 }
 
-/// Why a trace file isn't accepted.
-#[derive(Debug, Drop, Error)]
-pub enum CheckErr {
-    /// Its first line, counted from 1, that is refused, and why.
-    #[error("refused")]
-    Refused { line: u64, why: Why },
-    /// Memory ran out.
-    #[error("out of memory")]
-    Memory,
-}
+/// Why a trace file isn't accepted: its first line, counted from 1, that is refused, and why, or that memory
+/// ran out.
+pub type CheckErr = FileErr<Why>;
 
 /// What an accepted trace file claims: two words, or the braid words of two terms, a verdict on them, the
 /// word that it gives as witness, and the number of steps that lead there.

@@ -18,8 +18,8 @@ pub enum Due {
     Step(Replay),
     /// The witness of this verdict.
     Witness(Replay, Verdict),
-    /// The end.
-    Finish(Replay, Verdict),
+    /// The end, behind what the file claims.
+    Finish(Checked),
     /// No line: the end was passed.
     Passed(Checked),
 }

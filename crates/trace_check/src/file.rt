@@ -1,72 +1,20 @@
-ghost use Rattle.std.specs.Prelude.{◌≡◌, ◌↔◌, ℕ, [], ◌∷◌, Ok, Err, MatchOption, IfOk};
-ghost use Rattle.wb_base.specs.Lines.{cut};
+ghost use Rattle.std.specs.Prelude.{◌≡◌, ◌↔◌, ◌+◌, ◌≤◌, ℕ, Ok, Err, IfOk};
+ghost use Rattle.wb_base.specs.Streams.{Rose};
+ghost use Rattle.wb_base.specs.declared.TheConstants.{MAX_WHOLE};
 ghost use Rattle.trace_format.specs.TraceText.{Trace};
 ghost use Rattle.trace_check.specs.Accepted.{IsAccepted, claim_of, IsValid};
-ghost use Rattle.trace_check.specs.Checking.{at_end, at_line, checked_of, Gives};
-ghost use Rattle.trace_check.specs.Keeping.{state_of};
+ghost use Rattle.line_file.specs.Keeping.{Gives};
+ghost use Rattle.line_file.specs.Sources.{Checks};
+ghost use Rattle.line_file.specs.declared.source.SourceErr.TheVariants as SourceErr;
+ghost use Rattle.trace_check.specs.Checking.{trace_file, checked_of};
 ghost use Rattle.trace_check.specs.FirstRefusal.{IsFirstRefusal, HasNoRefusal, IfRefused};
 ghost use Rattle.trace_check.specs.declared.checked.Why.{Why as Cause};
 
-use crate::MAX_LINE;
 use crate::checked::{CheckErr, Checked, Why};
-use crate::due::Due;
-use crate::keep::{Stop, keep};
+use crate::reading::Reading;
+use line_file::{SourceErr, check_file};
 use std::alloc::Global;
-
-// The first whole line, and what follows its LF.
-fn first_line(bytes: &[u8]) -> Option<(&[u8], &[u8])>
-    ensures { MatchOption result
-        (cut bytes.now ≡ ([], bytes.now))
-        (λ r. cut bytes.now ≡ (r.0.now ∷ (cut r.1.now).0, (cut r.1.now).1)) }
-{
-    for (i, byte) in bytes.iter().enumerate() {
-        if *byte == b'\n' {
-            return Some((&bytes[..i], &bytes[i + 1..]));
-        }
-    }
-    None
-}
-
-// What a file claims of which these bytes without LF are left.
-fn finish(due: Due, rest: &[u8], line: u64) -> Result<Checked, CheckErr>
-    ensures { Gives result (at_line line (at_end (state_of due) rest.now)) }
-{
-    match due {
-        Due::Passed(checked) if rest.is_empty() => Ok(checked),
-        Due::Passed(_) => Err(CheckErr::Refused {
-            line,
-            why: Why::Extra,
-        }),
-        _ if rest.len() > MAX_LINE => Err(CheckErr::Refused {
-            line,
-            why: Why::Long,
-        }),
-        _ => Err(CheckErr::Refused {
-            line,
-            why: Why::Truncated,
-        }),
-    }
-}
-
-// Keeps one line after the other.
-#[tactic(auto, unfolding(crate::specs::Checking::checked_of))]
-fn replay(alloc: Global, bytes: &[u8]) -> Result<Checked, CheckErr>
-    ensures { Gives result (checked_of bytes.now) }
-{
-    let mut due = Due::Start;
-    let mut line: u64 = 1;
-    let mut rest = bytes;
-    while let Some((whole, behind)) = first_line(rest) {
-        due = match keep(alloc, due, whole) {
-            Ok(next) => next,
-            Err(Stop::Refused(why)) => return Err(CheckErr::Refused { line, why }),
-            Err(Stop::Memory) => return Err(CheckErr::Memory),
-        };
-        line = line.saturating_add(1);
-        rest = behind;
-    }
-    finish(due, rest, line)
-}
+use wb_base::Source;
 
 /// Checks a trace file of any maker: replays its steps from the quotient of its two words, or of the braid
 /// words of its two terms, to its witness.
@@ -94,5 +42,25 @@ pub fn check(alloc: Global, bytes: &[u8]) -> Result<Checked, CheckErr>
     // What it claims, or its first refusal.
     ensures exact { Gives result (checked_of bytes.now) }
 {
-    replay(alloc, bytes)
+    check_file::<Reading>(alloc, bytes)
+}
+
+/// Checks all bytes of a source, of which there may be at most `limit`, as `check` does, in the memory of one
+/// line and of the words.
+///
+/// It takes at most 4,096 bytes at a time. A refusal is answered behind the last byte, so that a source with
+/// too many bytes is told by that, whatever its lines are: exactly `limit + 1` bytes were taken then. It
+/// makes at most `limit + 2` calls.
+pub fn check_source<S: Source>(
+    alloc: Global,
+    source: &mut S,
+    limit: usize,
+) -> Result<Checked, SourceErr<Why>>
+    requires { limit ≤ MAX_WHOLE }
+    ensures checked { Checks trace_file limit (S.left source.old) (S.left source.new) result }
+    ensures fault { result ≡ Err SourceErr.Fault → Rose (S.faults source.old) (S.faults source.new) }
+    ensures later { S.faults source.old ≤ S.faults source.new }
+    ensures calls { S.calls source.new ≤ S.calls source.old + (limit + 2) }
+{
+    line_file::check_source::<Reading, S>(alloc, source, limit)
 }

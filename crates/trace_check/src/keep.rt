@@ -10,16 +10,15 @@ ghost use Rattle.term_graph.specs.TermLists.{term_at};
 ghost use Rattle.term_eval.specs.Braids.{braid};
 ghost use Rattle.trace_format.specs.Said.{said_by};
 ghost use Rattle.trace_format.specs.TraceLines.{IsShortTerm, IsLine, IsStepLine};
-ghost use Rattle.trace_check.specs.Checking.{begun_with, kept, kept_short, kept_step, moved, stepped, stepped_to, shown};
-ghost use Rattle.trace_check.specs.Keeping.{Keeps, StepsTo, replay_of, state_of, stop_of};
+ghost use Rattle.trace_check.specs.Checking.{begun_with, kept_short, kept_step, moved, stepped, stepped_to, shown};
+ghost use Rattle.trace_check.specs.Keeping.{Keeps, StepsTo, replay_of, replay_to, state_of, stop_of};
 ghost use Rattle.trace_check.specs.States as state;
 ghost use Rattle.trace_format.specs.declared.line.LineErr.TheVariants.{Memory};
 
-use crate::MAX_LINE;
 use crate::checked::{Checked, Why};
 use crate::due::Due;
+use crate::present::Present;
 use crate::replay::Replay;
-use crate::steps::step_to;
 use braid_word::{Letter, MAX_LETTERS, Word, quotient, sign_of};
 use ld_term::Tree;
 use std::alloc::{AllocError, Global};
@@ -116,14 +115,14 @@ fn keep_left(alloc: Global, line: &[u8]) -> Result<Due, Stop>
 fn begin(alloc: Global, left: Word, right: Word) -> Result<Due, Stop>
     ensures { Keeps result (begun_with left right) }
 {
-    let present = quotient(alloc, left.letters(), right.letters())?;
-    if present.letters().len() > MAX_LETTERS {
+    let quotient = quotient(alloc, left.letters(), right.letters())?;
+    if quotient.letters().len() > MAX_LETTERS {
         return Err(Stop::Refused(Why::Long));
     }
     Ok(Due::Step(Replay {
         left,
         right,
-        present,
+        present: Present::make(alloc, quotient.letters())?,
         steps: 0,
     }))
 }
@@ -155,26 +154,28 @@ fn keep_right_term(alloc: Global, left: Word, line: &[u8]) -> Result<Due, Stop>
 }
 
 // A step of the replay.
-fn keep_move(alloc: Global, replay: Replay, step: StepLine) -> Result<Due, Stop>
+fn keep_move(replay: Replay, step: StepLine) -> Result<Due, Stop>
     requires { IsStepLine step }
     ensures { Keeps result (moved (replay_of replay) (stepped replay.present step)) }
 {
-    let present = step_to(alloc, replay.present.letters(), step)?;
-    Ok(Due::Step(Replay {
-        left: replay.left,
-        right: replay.right,
-        present,
-        steps: replay.steps.saturating_add(1),
-    }))
+    match replay.present.step(step) {
+        Ok(present) => Ok(Due::Step(Replay {
+            left: replay.left,
+            right: replay.right,
+            present,
+            steps: replay.steps.saturating_add(1),
+        })),
+        Err(why) => Err(Stop::Refused(why)),
+    }
 }
 
 // A step, or the verdict, as the line says it.
-fn keep_said(alloc: Global, replay: Replay, said: Line) -> Result<Due, Stop>
+fn keep_said(replay: Replay, said: Line) -> Result<Due, Stop>
     requires { IsLine (said_by said) }
     ensures { Keeps result (kept_step (replay_of replay) (Ok (said_by said))) }
 {
     match said {
-        Line::Step(step) => keep_move(alloc, replay, step),
+        Line::Step(step) => keep_move(replay, step),
         Line::Verdict(verdict) => Ok(Due::Witness(replay, verdict)),
         _ => Err(Stop::Refused(Why::Form)),
     }
@@ -185,17 +186,10 @@ fn keep_step(alloc: Global, replay: Replay, line: &[u8]) -> Result<Due, Stop>
     ensures { Keeps result (kept_short (state.step (replay_of replay)) line.now) }
 {
     match read_line(alloc, line) {
-        Ok(said) => keep_said(alloc, replay, said),
+        Ok(said) => keep_said(replay, said),
         Err(LineErr::Memory) => Err(Stop::Memory),
         Err(_) => Err(Stop::Refused(Why::Form)),
     }
-}
-
-// Whether two words are the same letters.
-fn are_same(u: &[Letter], v: &[Letter]) -> bool
-    ensures { Decides result (u.now ≡ v.now) }
-{
-    u == v
 }
 
 // Whether the sign of a word goes with a verdict.
@@ -209,13 +203,13 @@ fn has_sign_of(word: &[Letter], verdict: Verdict) -> bool
 fn show(replay: Replay, verdict: Verdict, word: Word) -> Result<Due, Stop>
     ensures { Keeps result (shown (replay_of replay) verdict word) }
 {
-    if !are_same(word.letters(), replay.present.letters()) {
+    if !replay.present.is(word.letters()) {
         return Err(Stop::Refused(Why::Witness));
     }
     if !has_sign_of(word.letters(), verdict) {
         return Err(Stop::Refused(Why::Sign));
     }
-    Ok(Due::Finish(replay, verdict))
+    Ok(Due::Finish(Checked::new(replay.left, replay.right, verdict, word, replay.steps)))
 }
 
 // The witness of a verdict.
@@ -232,36 +226,28 @@ fn keep_witness(alloc: Global, replay: Replay, verdict: Verdict, line: &[u8]) ->
 }
 
 // The end.
-fn keep_finish(replay: Replay, verdict: Verdict, line: &[u8]) -> Result<Due, Stop>
-    ensures { Keeps result (kept_short (state.finish (replay_of replay) verdict) line.now) }
+fn keep_finish(checked: Checked, line: &[u8]) -> Result<Due, Stop>
+    ensures { Keeps result (kept_short (state.finish (replay_to checked) checked.verdict) line.now) }
 {
     if line == b"end".as_slice() {
-        let Replay {
-            left,
-            right,
-            present,
-            steps,
-        } = replay;
-        Ok(Due::Passed(Checked::new(left, right, verdict, present, steps)))
+        Ok(Due::Passed(checked))
     } else {
         Err(Stop::Refused(Why::Form))
     }
 }
 
-/// What is due after a line, which is given without its LF.
-#[tactic(auto, unfolding(crate::specs::Checking::kept))]
+/// What is due after a line that isn't too long, which is given without its LF.
 pub fn keep(alloc: Global, due: Due, line: &[u8]) -> Result<Due, Stop>
-    ensures { Keeps result (kept (state_of due) line.now) }
+    ensures { Keeps result (kept_short (state_of due) line.now) }
 {
     match due {
         Due::Passed(_) => Err(Stop::Refused(Why::Extra)),
-        _ if line.len() > MAX_LINE => Err(Stop::Refused(Why::Long)),
         Due::Start => keep_start(line),
         Due::Left => keep_left(alloc, line),
         Due::Right(left) => keep_right(alloc, left, line),
         Due::RightTerm(left) => keep_right_term(alloc, left, line),
         Due::Step(replay) => keep_step(alloc, replay, line),
         Due::Witness(replay, verdict) => keep_witness(alloc, replay, verdict, line),
-        Due::Finish(replay, verdict) => keep_finish(replay, verdict, line),
+        Due::Finish(checked) => keep_finish(checked, line),
     }
 }

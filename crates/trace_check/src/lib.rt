@@ -2,16 +2,20 @@
 #![tactic(auto)]
 
 mod checked;
+mod checker;
 mod due;
 mod file;
 mod keep;
+mod present;
+mod reading;
 mod replay;
 mod steps;
 #[cfg(test)]
 mod tests;
 
 pub use checked::{CheckErr, Checked, Why};
-pub use file::check;
+pub use checker::Checker;
+pub use file::{check, check_source};
 
 /// The most bytes of a line, without its LF.
 pub const MAX_LINE: usize = 524_288;

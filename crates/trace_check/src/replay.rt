@@ -1,3 +1,4 @@
+use crate::present::Present;
 use braid_word::Word;
 
 /// The words of a trace file that have been read, or the braid words of its terms, the word that its steps
@@ -6,6 +7,6 @@ use braid_word::Word;
 pub struct Replay {
     pub left: Word,
     pub right: Word,
-    pub present: Word,
+    pub present: Present,
     pub steps: u64,
 }

@@ -1,31 +1,127 @@
-// The steps of a replay, each by its kind.
-ghost use Rattle.std.specs.Prelude.{◌≡◌, ◌-◌, ◌++◌, take, drop};
+// The steps of a replay, each by its kind. A step that is refused leaves the word as far as it was looked at.
+ghost use Rattle.std.specs.Prelude.{◌≡◌, ℕ, ◌+◌, ◌-◌, ◌*◌, ◌<◌, ◌≤◌, ◌==◌, ◌++◌, length, take, drop, not, true, Ok, IsTrue, OnOk, MatchOption, ◌↔◌};
+ghost use Rattle.std.specs.List.{count_by};
+ghost use Rattle.braid_word.specs.declared.TheConstants.{MAX_LETTERS};
+ghost use Rattle.gap_word.specs.Gap.{gap};
+ghost use Rattle.handle_find.specs.Handles.{at};
+ghost use Rattle.handle_find.specs.Scans.{whole, IsHandleAtCursor, reduct_at_cursor};
 ghost use Rattle.trace_format.specs.TraceLines.{IsPlace, IsStepLine};
 ghost use Rattle.trace_format.specs.declared.line.StepLine.TheVariants.{Handle, Commute, Swap, Delete, Insert};
-ghost use Rattle.trace_check.specs.Checking.{are_far, are_near, are_braided, are_inverse, stepped_to, stepped};
-ghost use Rattle.trace_check.specs.Keeping.{StepsTo};
+ghost use Rattle.trace_check.specs.Checking.{are_far, are_near, are_braided, are_inverse, stepped};
+ghost use Rattle.trace_check.specs.Presents.{IsPresent, After, Takes};
 
 use crate::checked::Why;
-use crate::keep::Stop;
-use braid_word::{Letter, MAX_LETTERS, Word};
-use handle_find::{is_handle, reduct, reduct_len};
-use std::alloc::Global;
+use braid_word::{Letter, MAX_LETTERS};
+use gap_word::GapWord;
+use handle_find::take_back;
 use trace_format::StepLine;
 
-// The word with its handle at two places, counted from 1, reduced.
-fn reduce(alloc: Global, word: &[Letter], start: u32, end: u32) -> Result<Word, Stop>
+// Moves the cursor before a place, counted from 1, or behind the last letter.
+fn go_to(word: &mut GapWord<Letter>, place: u32)
+    requires { IsPlace place }
+    ensures { word.new ≡ gap (take (place - 1) (whole word.old)) (drop (place - 1) (whole word.old))
+        word.old.spare }
+{
+    let len = word.left_len() + word.right_len();
+    word.move_to((place as usize - 1).min(len));
+}
+
+// The letter of left at a place, counted from 0.
+fn letter_at(word: &GapWord<Letter>, k: usize) -> Letter
+    requires { k < length word.now.left }
+    ensures { result ≡ at word.now.left k }
+{
+    match word.left_at(k) {
+        Some(letter) => letter,
+        None => unreachable!(),
+    }
+}
+
+// How many letters between a place and the cursor have the next index to that of `first`, where all are
+// higher.
+fn count_raised(word: &GapWord<Letter>, start: usize, first: Letter) -> Option<usize>
+    requires { start < length word.now.left }
+    ensures { MatchOption result
+        (((k : ℕ) → start < k → k < length word.now.left → first.index < (at word.now.left k).index) → ⊥)
+        (λ n. ((k : ℕ) → start < k → k < length word.now.left → first.index < (at word.now.left k).index)
+        × (n ≡ count_by (λ x. x.index == first.index + 1) (drop (start + 1) word.now.left))) }
+{
+    let index = first.index();
+    let mut raised = 0;
+    let end = word.left_len();
+    for k in (start + 1..end).rev() {
+        let found = letter_at(word, k).index();
+        if found <= index {
+            return None;
+        }
+        if found == index + 1 {
+            raised += 1;
+        }
+    }
+    Some(raised)
+}
+
+// How many letters are raised in the handle that begins at a place and ends with the first letter of right,
+// if there is one.
+fn raised_in(word: &GapWord<Letter>, start: usize) -> Option<usize>
+    ensures { MatchOption result (IsHandleAtCursor word.now start → ⊥)
+        (λ n. IsHandleAtCursor word.now start
+        × (n ≡ count_by (λ x. x.index == (at word.now.left start).index + 1)
+        (drop (start + 1) word.now.left))) }
+{
+    if start >= word.left_len() {
+        return None;
+    }
+    let last = word.right_at(0)?;
+    let first = letter_at(word, start);
+    if !are_inverse(first, last) {
+        return None;
+    }
+    count_raised(word, start, first)
+}
+
+// Reduces the handle that ends at the cursor.
+fn close(word: &mut GapWord<Letter>, start: usize, raised: usize)
+    requires handle { IsHandleAtCursor word.old start }
+    requires raised { raised ≡ count_by (λ x. x.index == (at word.old.left start).index + 1)
+        (drop (start + 1) word.old.left) }
+    requires present { IsPresent word.old }
+    requires short { length (reduct_at_cursor word.old start) ≤ MAX_LETTERS }
+    ensures reduct { whole word.new ≡ reduct_at_cursor word.old start }
+    ensures present { IsPresent word.new }
+{
+    let first = letter_at(word, start);
+    let Some(_last) = word.pop_right() else {
+        unreachable!();
+    };
+    if raised == 0 {
+        word.remove_left(start);
+    } else {
+        take_back(word, start + 1, first);
+        let Some(_first) = word.pop_left() else {
+            unreachable!();
+        };
+    }
+}
+
+// Reduces the handle at two places, counted from 1.
+fn reduce(word: &mut GapWord<Letter>, start: u32, end: u32) -> Result<(), Why>
     requires start { IsPlace start }
     requires end { IsPlace end }
-    ensures { StepsTo result (stepped word.now (Handle start end)) }
+    requires present { IsPresent word.old }
+    ensures word { After result (whole word.new) ≡ stepped (whole word.old) (Handle start end) }
+    ensures present { OnOk result (IsPresent word.new) }
 {
-    let (p, q) = (start as usize - 1, end as usize - 1);
-    if !is_handle(word, p, q) {
-        return Err(Stop::Refused(Why::Step));
+    let start = start as usize - 1;
+    go_to(word, end);
+    let Some(raised) = raised_in(word, start) else {
+        return Err(Why::Step);
+    };
+    if word.left_len() + word.right_len() - 2 + 2 * raised > MAX_LETTERS {
+        return Err(Why::Long);
     }
-    if reduct_len(word, p, q) > MAX_LETTERS {
-        return Err(Stop::Refused(Why::Long));
-    }
-    Ok(reduct(alloc, word, p, q)?)
+    close(word, start, raised);
+    Ok(())
 }
 
 // Whether the indices of two letters are 2 or more apart.
@@ -56,90 +152,102 @@ fn are_inverse(x: Letter, y: Letter) -> bool
     y.index == x.index && y.negative != x.negative
 }
 
-// The letters before a place, counted from 1, and those from there on.
-fn split_before(word: &[Letter], place: u32) -> (&[Letter], &[Letter])
-    requires { IsPlace place }
-    ensures front { result.0.now ≡ take (place - 1) word.now }
-    ensures behind { result.1.now ≡ drop (place - 1) word.now }
+// Takes the first letter of right out.
+fn take_letter(word: &mut GapWord<Letter>) -> Result<Letter, Why>
+    ensures { Takes result word.old word.new }
 {
-    word.split_at((place as usize - 1).min(word.len()))
-}
-
-// The word of three parts, one behind the other.
-fn join(alloc: Global, front: &[Letter], middle: &[Letter], back: &[Letter]) -> Result<Word, Stop>
-    ensures { StepsTo result (stepped_to (front.now ++ (middle.now ++ back.now))) }
-{
-    let len = front
-        .len()
-        .saturating_add(middle.len().saturating_add(back.len()));
-    if len > MAX_LETTERS {
-        return Err(Stop::Refused(Why::Long));
-    }
-    let mut letters = Vec::with_capacity(alloc, len)?;
-    letters.extend_from_slice(front)?;
-    letters.extend_from_slice(middle)?;
-    letters.extend_from_slice(back)?;
-    Ok(Word::of(letters))
-}
-
-// The word in which two letters that commute, the first at this place, have changed places.
-fn commute(alloc: Global, word: &[Letter], place: u32) -> Result<Word, Stop>
-    requires { IsPlace place }
-    ensures { StepsTo result (stepped word.now (Commute place)) }
-{
-    let (front, behind) = split_before(word, place);
-    match behind {
-        [x, y, back @ ..] if are_far(*x, *y) => join(alloc, front, &[*y, *x], back),
-        _ => Err(Stop::Refused(Why::Step)),
+    match word.pop_right() {
+        Some(letter) => Ok(letter),
+        None => Err(Why::Step),
     }
 }
 
-// The word in which a side of a braid relation, from this place on, has become the other side.
-fn swap(alloc: Global, word: &[Letter], place: u32) -> Result<Word, Stop>
-    requires { IsPlace place }
-    ensures { StepsTo result (stepped word.now (Swap place)) }
+// Has two letters that commute, the first at this place, change places.
+fn commute(word: &mut GapWord<Letter>, place: u32) -> Result<(), Why>
+    requires place { IsPlace place }
+    requires present { IsPresent word.old }
+    ensures word { After result (whole word.new) ≡ stepped (whole word.old) (Commute place) }
+    ensures present { OnOk result (IsPresent word.new) }
 {
-    let (front, behind) = split_before(word, place);
-    match behind {
-        [x, y, z, back @ ..] if are_braided(*x, *y, *z) => join(alloc, front, &[*y, *x, *y], back),
-        _ => Err(Stop::Refused(Why::Step)),
+    go_to(word, place);
+    let x = take_letter(word)?;
+    let y = take_letter(word)?;
+    if !are_far(x, y) {
+        return Err(Why::Step);
     }
+    word.push_right(x);
+    word.push_right(y);
+    Ok(())
 }
 
-// The word without two letters inverse to each other, the first at this place.
-fn delete(alloc: Global, word: &[Letter], place: u32) -> Result<Word, Stop>
-    requires { IsPlace place }
-    ensures { StepsTo result (stepped word.now (Delete place)) }
+// Turns a side of a braid relation, from this place on, into the other side.
+fn swap(word: &mut GapWord<Letter>, place: u32) -> Result<(), Why>
+    requires place { IsPlace place }
+    requires present { IsPresent word.old }
+    ensures word { After result (whole word.new) ≡ stepped (whole word.old) (Swap place) }
+    ensures present { OnOk result (IsPresent word.new) }
 {
-    let (front, behind) = split_before(word, place);
-    match behind {
-        [x, y, back @ ..] if are_inverse(*x, *y) => join(alloc, front, &[], back),
-        _ => Err(Stop::Refused(Why::Step)),
+    go_to(word, place);
+    let x = take_letter(word)?;
+    let y = take_letter(word)?;
+    let z = take_letter(word)?;
+    if !are_braided(x, y, z) {
+        return Err(Why::Step);
     }
+    word.push_right(y);
+    word.push_right(x);
+    word.push_right(y);
+    Ok(())
 }
 
-// The word with a letter and its inverse, the first at this place.
-fn insert(alloc: Global, word: &[Letter], place: u32, letter: Letter) -> Result<Word, Stop>
-    requires { IsPlace place }
-    ensures { StepsTo result (stepped word.now (Insert place letter)) }
+// Takes two letters out that are inverse to each other, the first at this place.
+fn delete(word: &mut GapWord<Letter>, place: u32) -> Result<(), Why>
+    requires place { IsPlace place }
+    requires present { IsPresent word.old }
+    ensures word { After result (whole word.new) ≡ stepped (whole word.old) (Delete place) }
+    ensures present { OnOk result (IsPresent word.new) }
 {
-    if place as usize - 1 > word.len() {
-        return Err(Stop::Refused(Why::Step));
+    go_to(word, place);
+    let x = take_letter(word)?;
+    let y = take_letter(word)?;
+    if !are_inverse(x, y) {
+        return Err(Why::Step);
     }
-    let (front, back) = split_before(word, place);
-    join(alloc, front, &[letter, letter.opposite()], back)
+    Ok(())
 }
 
-/// The word that a step leads to.
-pub fn step_to(alloc: Global, word: &[Letter], step: StepLine) -> Result<Word, Stop>
-    requires { IsStepLine step }
-    ensures { StepsTo result (stepped word.now step) }
+// Puts a letter and its inverse in, the first at this place.
+fn insert(word: &mut GapWord<Letter>, place: u32, letter: Letter) -> Result<(), Why>
+    requires place { IsPlace place }
+    requires present { IsPresent word.old }
+    ensures word { After result (whole word.new) ≡ stepped (whole word.old) (Insert place letter) }
+    ensures present { OnOk result (IsPresent word.new) }
+{
+    let len = word.left_len() + word.right_len();
+    if place as usize - 1 > len {
+        return Err(Why::Step);
+    }
+    if len + 2 > MAX_LETTERS {
+        return Err(Why::Long);
+    }
+    go_to(word, place);
+    word.push_right(letter.opposite());
+    word.push_right(letter);
+    Ok(())
+}
+
+/// Makes a step.
+pub fn step_to(word: &mut GapWord<Letter>, step: StepLine) -> Result<(), Why>
+    requires step { IsStepLine step }
+    requires present { IsPresent word.old }
+    ensures word { After result (whole word.new) ≡ stepped (whole word.old) step }
+    ensures present { OnOk result (IsPresent word.new) }
 {
     match step {
-        StepLine::Handle(start, end) => reduce(alloc, word, start, end),
-        StepLine::Commute(place) => commute(alloc, word, place),
-        StepLine::Swap(place) => swap(alloc, word, place),
-        StepLine::Delete(place) => delete(alloc, word, place),
-        StepLine::Insert(place, letter) => insert(alloc, word, place, letter),
+        StepLine::Handle(start, end) => reduce(word, start, end),
+        StepLine::Commute(place) => commute(word, place),
+        StepLine::Swap(place) => swap(word, place),
+        StepLine::Delete(place) => delete(word, place),
+        StepLine::Insert(place, letter) => insert(word, place, letter),
     }
 }

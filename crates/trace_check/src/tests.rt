@@ -1,6 +1,7 @@
-use crate::{CheckErr, MAX_LINE, check};
+use crate::{CheckErr, Checked, Checker, MAX_LINE, check};
 use braid_word::{MAX_LETTERS, read_strict_word};
 use std::alloc::Global;
+use std::process::Abort;
 use std::test::Fail;
 use trace_format::Verdict;
 
@@ -12,9 +13,9 @@ const TRACE: &str =
 const TERMS: &str =
     "braid-trace 1\nleft-term (x*(x*x))\nright-term ((x*x)*(x*x))\nh 1 3\nh 3 4\nh 2 3\nh 1 2\nverdict equal\nwitness\nend\n";
 
-// What a file is: its verdict and its steps, or the line and the cause of its first refusal.
-fn answer(alloc: Global, file: &[u8]) -> Result<String, Fail> {
-    match check(alloc, file) {
+// What a file was found to be: its verdict and its steps, or the line and the cause of its first refusal.
+fn text_of(alloc: Global, answer: Result<Checked, CheckErr>) -> Result<String, Fail> {
+    match answer {
         Ok(checked) => {
             let (verdict, steps) = (checked.verdict(), checked.steps());
             Ok(format!(in alloc; "accepted {verdict:?} {steps}")?)
@@ -22,6 +23,20 @@ fn answer(alloc: Global, file: &[u8]) -> Result<String, Fail> {
         Err(CheckErr::Refused { line, why }) => Ok(format!(in alloc; "refused {line} {why:?}")?),
         Err(CheckErr::Memory) => Ok(String::from_str(alloc, "memory")?),
     }
+}
+
+// What a file is.
+fn answer(alloc: Global, file: &[u8]) -> Result<String, Fail> {
+    text_of(alloc, check(alloc, file))
+}
+
+// What a file is whose bytes come in pieces of so many.
+fn answer_in_pieces(alloc: Global, file: &[u8], size: usize) -> Result<String, Fail> {
+    let mut checker = Checker::begin(alloc)?;
+    for piece in file.chunks(size.max(1)) {
+        let _ = checker.feed(piece);
+    }
+    text_of(alloc, checker.finish())
 }
 
 #[test]
@@ -101,6 +116,10 @@ fn accepts_a_trace_and_nothing_else(rt: HostRuntime) -> Result<(), Fail> {
     ] {
         let got = answer(alloc, file.as_bytes())?;
         assert_eq!(rt; got.as_str(), want, "of {file:?}");
+        for size in [1, 7, 4096] {
+            let got = answer_in_pieces(alloc, file.as_bytes(), size)?;
+            assert_eq!(rt; got.as_str(), want, "of {file:?} in pieces of {size}");
+        }
     }
     Ok(())
 }
@@ -133,6 +152,10 @@ fn accepts_a_trace_of_two_terms_and_no_mixed_one(rt: HostRuntime) -> Result<(), 
     ] {
         let got = answer(alloc, file.as_bytes())?;
         assert_eq!(rt; got.as_str(), want, "of {file:?}");
+        for size in [1, 7, 4096] {
+            let got = answer_in_pieces(alloc, file.as_bytes(), size)?;
+            assert_eq!(rt; got.as_str(), want, "of {file:?} in pieces of {size}");
+        }
     }
     Ok(())
 }
@@ -240,6 +263,50 @@ fn refuses_each_front_of_a_trace_as_truncated(rt: HostRuntime) -> Result<(), Fai
         );
     }
     Ok(())
+}
+
+#[test]
+fn a_file_may_be_cut_anywhere(rt: HostRuntime) -> Result<(), Fail> {
+    let alloc = rt.alloc();
+    let bytes = TRACE.as_bytes();
+    for k in 0..=bytes.len() {
+        let mut checker = Checker::begin(alloc)?;
+        checker.feed(&bytes[..k])?;
+        checker.feed(&bytes[k..])?;
+        assert_eq!(rt; checker.finish()?.steps(), 2, "cut behind {k} bytes");
+    }
+    Ok(())
+}
+
+// Asserts that the second piece of two is refused, and then whatever follows, and what the file is.
+fn assert_refused_behind(
+    rt: &impl Abort,
+    alloc: Global,
+    front: &[u8],
+    last: &[u8],
+    want: &str,
+) -> Result<(), Fail> {
+    let mut checker = Checker::begin(alloc)?;
+    checker.feed(front)?;
+    assert!(rt; checker.feed(last).is_err(), "the last piece of {want:?}");
+    assert_eq!(rt; checker.held(), 0, "of {want:?}");
+    assert!(rt; checker.feed(b"end\n").is_err(), "behind {want:?}");
+    assert_eq!(rt; text_of(alloc, checker.finish())?.as_str(), want);
+    Ok(())
+}
+
+#[test]
+fn a_refusal_comes_as_soon_as_nothing_can_take_it_back(rt: HostRuntime) -> Result<(), Fail> {
+    let alloc = rt.alloc();
+    let mut long = Vec::from_slice(alloc, b"braid-trace 1\n")?;
+    for _ in 0..MAX_LINE {
+        long.push(b'1')?;
+    }
+    let whole = TRACE.as_bytes();
+    assert_refused_behind(&rt, alloc, b"braid-trace 2", b"\n", "refused 1 Header")?;
+    assert_refused_behind(&rt, alloc, &long, b"1", "refused 2 Long")?;
+    assert_refused_behind(&rt, alloc, whole, b"x", "refused 9 Extra")?;
+    assert_refused_behind(&rt, alloc, whole, b"\n", "refused 9 Extra")
 }
 
 // Puts so many letters at the end of a line, and an LF.

@@ -1,5 +1,5 @@
 -- Laws of the words of a command line.
-use Rattle.std.proofs.Common.{◌≡◌, ℕ, List, [], ◌∷◌, Option, Some, None, refl}
+use Rattle.std.proofs.Common.{◌≡◌, ℕ, List, [], ◌∷◌, Some, None, refl}
 use Rattle.wb_base.specs.Numbers.{number_within}
 use Rattle.wb_command.specs.Args.{first_word, first_number}
 

@@ -3,14 +3,14 @@
 -- An input has one answer at most (`HasAnswer-one`). What a run leaves follows from the answer that was
 -- written
 -- (`HasRun-read` of a command that has an input, `HasRun-alone` of one that has none).
-use Rattle.std.proofs.Common.{◌≡◌, ◌≢◌, ◌⊎◌, inl, inr, ⊎_elim, ℕ, ◌+◌, ◌<◌, ◌≤◌, List, [], ◌++◌, length, drop, true, false, Option, Some, None, IfSome, refl, ap, sym, subst, ◌∙◌, arith}
+use Rattle.std.proofs.Common.{◌≡◌, ◌≢◌, ◌⊎◌, inl, inr, ⊎_elim, ℕ, ◌+◌, ◌≤◌, List, [], ◌++◌, length, drop, true, false, Option, Some, None, IfSome, refl, ap, sym, subst, ◌∙◌, arith}
 use Rattle.std.specs.Option.{option_map}
 use Rattle.std.specs.Io.KnownBytes.{append_known}
 use Rattle.std.proofs.lemmas.List.{append-nil, drop_at, drop_all, length-append}
 use Rattle.wb_base.specs.Streams.{Ends, ReadsAll, Rose, Skips}
 use Rattle.wb_base.specs.Status.{Answer}
 use Rattle.wb_base.specs.declared.status.Status.{Status}
-use Rattle.wb_base.specs.declared.status.Status.TheVariants.{Done, Refused, Words, Limit, ReadFault, WriteFault, Memory}
+use Rattle.wb_base.specs.declared.status.Status.TheVariants.{Done, Refused, Limit, ReadFault, WriteFault, Memory}
 use Rattle.wb_command.specs.declared.TheConstants.{MAX_INPUT}
 use Rattle.wb_command.specs.Answers.{Told, IsTold, told_answer, IsEnding}
 use Rattle.wb_command.specs.Refusals.{input_met}
@@ -60,6 +60,14 @@ left-short (Some input) (Some rest) bytes k all within =
     let whole : input ≡ bytes = some_injective all.taken ∙ ap (λ tail. bytes ++ tail) all.ended
     ∙ append-nil bytes in
     ap Some (all.ended ∙ sym (drop_all (k + 1) input (rw whole (omega arith))))
+
+-- and they were its front
+pub front-short
+    : (old new : Option (List ℕ)) (bytes : List ℕ) (k : ℕ)
+    → ReadsAll old new bytes
+    → length bytes ≤ k
+    → (n : ℕ) × (n ≤ k + 1) × Skips old new n
+front-short old new bytes k all within = (length bytes, omega arith, (bytes, refl, all.taken))
 
 -- an input of which a byte past the limit was taken
 pub HasAnswer-long

@@ -13,7 +13,7 @@ use Rattle.std.specs.Io.KnownBytes.{append_known}
 use Rattle.wb_base.specs.Streams.{Ends, Rose, Skips}
 use Rattle.wb_base.specs.Status.{Answer}
 use Rattle.wb_base.specs.declared.status.Status.{Status}
-use Rattle.wb_base.specs.declared.status.Status.TheVariants.{Done, Refused, Words, ReadFault, WriteFault, Memory}
+use Rattle.wb_base.specs.declared.status.Status.TheVariants.{Done, Refused, ReadFault, WriteFault, Memory}
 use Rattle.wb_command.specs.declared.TheConstants.{MAX_INPUT}
 use Rattle.wb_command.specs.Answers.{IsTold, IsEnding}
 use Rattle.wb_command.specs.Refusals.{input_met}

@@ -7,7 +7,7 @@
 --   length_needed L k                  a braid word of k letters may have L
 --   refusal_answer refusal             the answer that a refusal is
 --   comes_answer answer_of outcome     the answer that an outcome is: a refusal, or what `answer_of` says
-use Rattle.std.specs.Prelude.{ℕ, List, ◌++◌, codes, decimal}
+use Rattle.std.specs.Prelude.{ℕ, ◌++◌, codes, decimal}
 use Rattle.wb_base.specs.Lines.{line}
 use Rattle.wb_base.specs.Status.{Answer, answer}
 use Rattle.wb_base.specs.declared.status.Status.TheVariants.{Limit}

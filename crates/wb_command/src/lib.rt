@@ -5,6 +5,7 @@ mod args;
 mod fault;
 mod input;
 mod refusal;
+mod streamed;
 mod task;
 mod term_input;
 
@@ -12,7 +13,8 @@ pub use args::Args;
 pub use fault::Fault;
 pub use input::{InputErr, read_one_word, read_two_words};
 pub use refusal::{Comes, Refusal, Written};
-pub use task::{Served, Task, run_task};
+pub use streamed::{Streamed, run_streamed};
+pub use task::{Served, Stop, Task, run_task};
 pub use term_input::refuse;
 
 /// The most bytes of an input that is read whole.

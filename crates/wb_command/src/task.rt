@@ -67,12 +67,12 @@ pub trait Served {
         ensures words { result ≢ Status.Words };
 }
 
-// Why a command has come to nothing.
+/// Why a command has come to nothing.
 #[derive(Debug, Drop)]
-enum Stop {
-    // The source met a fault.
+pub enum Stop {
+    /// The source met a fault.
     ReadFault,
-    // Memory ran out.
+    /// Memory ran out.
     Memory,
 }
 
@@ -110,7 +110,7 @@ fn perform_reading<T: Task, S: Source>(
 }
 
 // Writes an outcome, so that no byte waits, and answers its status, or a fault of the sink.
-fn write<D: Written, K: Sink>(outcome: &D, sink: &mut K) -> Status
+pub(crate) fn write<D: Written, K: Sink>(outcome: &D, sink: &mut K) -> Status
     ensures told { Told (D.answer outcome.now) result (K.taken sink.old) (K.taken sink.new) }
     ensures ending { IsEnding result ⊎ (result ≡ Status.WriteFault) }
     ensures fault { result ≡ Status.WriteFault → Rose (K.faults sink.old) (K.faults sink.new) }

@@ -3,11 +3,11 @@ use Rattle.std.proofs.Common.{◌≡◌, ℕ, List, Result, Ok, Err, refl, ap, s
 use Rattle.wb_base.specs.Status.{Answer}
 use Rattle.wb_base.specs.declared.status.Status.TheVariants.{Done, Refused}
 use Rattle.trace_check.specs.Accepted.{Claim}
-use Rattle.trace_check.specs.Checking.{checked_of}
+use Rattle.trace_check.specs.Checking.{trace_file, checked_of}
 use Rattle.trace_check.specs.declared.checked.Why.{Why}
 use Rattle.trace_check.proofs.AcceptedLemmas.{IsValid-accepted}
 use Rattle.trace_check.proofs.CheckingLaws.{checked_of-accepted, accepted-checked_of}
-use Rattle.trace_check.proofs.RefusalLaws.{checked_of-IsFirstRefusal}
+use Rattle.line_file.proofs.RefusalLaws.{checked_of-IsFirstRefusal}
 use Rattle.wb_command.specs.Meaning.{IsSound}
 use Rattle.wb_compare.specs.Check.{accepted_text, checked, IsChecked, HasRefusal, check_meaning}
 
@@ -42,7 +42,7 @@ HasRefusal-checked input (Ok claim) a file is refused =
 HasRefusal-checked input (Err (k, why)) a file is refused = record {
   line = k;
   why = why;
-  first = checked_of-IsFirstRefusal input k why file;
+  first = checked_of-IsFirstRefusal trace_file input k why file;
   none = λ t accepted. let both = sym file ∙ accepted-checked_of input t accepted in absurd (cc);
   is = ap (λ (b : Answer). b.text) (sym is);
 }

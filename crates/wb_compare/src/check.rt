@@ -4,11 +4,12 @@ ghost use Rattle.wb_base.specs.Streams.{HasCause, Puts};
 ghost use Rattle.trace_format.specs.TraceText.{verdict_word};
 ghost use Rattle.wb_compare.specs.Check.{check_meaning, judged_answer, refused_text, why_word};
 
-use std::alloc::{AllocError, Global};
-use trace_check::{CheckErr, Why};
+use line_file::SourceErr;
+use std::alloc::Global;
+use trace_check::{Why, check_source};
 use trace_format::Verdict;
-use wb_base::{Failed, Sink, Status, put_line, put_numbered};
-use wb_command::{Comes, Task, Written};
+use wb_base::{Failed, Sink, Source, Status, put_line, put_numbered};
+use wb_command::{Comes, MAX_INPUT, Refusal, Stop, Streamed, Written};
 
 /// `check`: tells whether a trace file is accepted.
 #[derive(Clone, Copy, Debug, PartialEq, Eq)]
@@ -77,22 +78,20 @@ impl Written for Judged {
     }
 }
 
-impl Task for Check {
+impl Streamed for Check {
     type Done = Judged;
 
     ghost meaning = { λ command. check_meaning };
 
-    fn reads(&self) -> bool {
-        true
-    }
+    fn law_streamed(&self) {}
 
-    fn law_sound(&self) {}
-
-    fn perform(&self, alloc: Global, input: &[u8]) -> Result<Comes<Judged>, AllocError> {
-        match trace_check::check(alloc, input) {
+    fn perform<S: Source>(&self, alloc: Global, source: &mut S) -> Result<Comes<Judged>, Stop> {
+        match check_source(alloc, source, MAX_INPUT) {
             Ok(checked) => Ok(Comes::Done(Judged::Accepted(checked.verdict()))),
-            Err(CheckErr::Refused { line, why }) => Ok(Comes::Done(Judged::Refused(line, why))),
-            Err(CheckErr::Memory) => Err(AllocError),
+            Err(SourceErr::Refused { line, why }) => Ok(Comes::Done(Judged::Refused(line, why))),
+            Err(SourceErr::TooLarge) => Ok(Comes::Stopped(Refusal::InputMet)),
+            Err(SourceErr::Fault) => Err(Stop::ReadFault),
+            Err(SourceErr::Memory) => Err(Stop::Memory),
         }
     }
 }

@@ -1,8 +1,9 @@
 // The command `terms H L`.
-ghost use Rattle.std.specs.Prelude.{◌≡◌, ◌<◌, ◌≤◌, length, IfOk, IfNone, IfSome, Some};
+ghost use Rattle.std.specs.Prelude.{◌≡◌, ◌<◌, ◌≤◌, ◌+◌, length, IfOk, IfNone, IfSome, Some};
 ghost use Rattle.braid_word.specs.declared.TheConstants.{MAX_INDEX};
 ghost use Rattle.handle_reduce.specs.declared.TheConstants.{MAX_BOUND};
-ghost use Rattle.ld_term.specs.Terms.{height};
+ghost use Rattle.ld_term.specs.Terms.{height, leaf_count};
+ghost use Rattle.ld_term.specs.StrictTexts.{strict_text};
 ghost use Rattle.term_graph.specs.TermLists.{term_at, braid_length};
 ghost use Rattle.term_eval.specs.Braids.{braid};
 ghost use Rattle.wb_command.specs.Refusals.{comes_answer};
@@ -106,6 +107,32 @@ fn braid_of(
     }
 }
 
+// Two terms, and the reduction of the quotient of their braids, which has come to this verdict.
+fn compared(
+    alloc: Global,
+    graph: &TermGraph,
+    nodes: (NodeId, NodeId),
+    verdict: Verdict,
+    reducer: Reducer,
+) -> Result<ComparedTerms, AllocError>
+    requires first { nodes.0 < length graph.now }
+    requires second { nodes.1 < length graph.now }
+    requires left_leaves { leaf_count (term_at graph.now nodes.0) ≤ MAX_BOUND + 1 }
+    requires right_leaves { leaf_count (term_at graph.now nodes.1) ≤ MAX_BOUND + 1 }
+    ensures left { IfOk result (λ told. told.left.items ≡ strict_text (term_at graph.now nodes.0)) }
+    ensures right { IfOk result (λ told. told.right.items ≡ strict_text (term_at graph.now nodes.1)) }
+    ensures verdict { IfOk result (λ told. told.verdict ≡ verdict) }
+    ensures reducer { IfOk result (λ told. told.reducer ≡ reducer) }
+{
+    let (first, second) = nodes;
+    Ok(ComparedTerms {
+        left: graph.strict_text(alloc, first)?,
+        right: graph.strict_text(alloc, second)?,
+        verdict,
+        reducer,
+    })
+}
+
 // Compares the braids of two terms, whose words are these, within these limits.
 fn compare_braids(
     alloc: Global,
@@ -126,15 +153,11 @@ fn compare_braids(
     ensures { IfOk result (λ outcome. braids_compared handles limit (term_at graph.now nodes.0)
         (term_at graph.now nodes.1) ≡ Some (comes_answer compared_terms_answer outcome)) }
 {
-    let (first, second) = nodes;
     let (left, right) = words;
     match reduce(alloc, left.letters(), right.letters(), handles, limit)? {
-        Ended::Decided { verdict, reducer } => Ok(Comes::Done(ComparedTerms {
-            left: graph.strict_text(alloc, first)?,
-            right: graph.strict_text(alloc, second)?,
-            verdict,
-            reducer,
-        })),
+        Ended::Decided { verdict, reducer } => {
+            Ok(Comes::Done(compared(alloc, graph, nodes, verdict, reducer)?))
+        }
         Ended::HandlesMet => Ok(Comes::Stopped(Refusal::HandlesMet(u64::from(handles)))),
         Ended::LengthMet => Ok(Comes::Stopped(Refusal::LengthMet(u64::from(limit)))),
     }

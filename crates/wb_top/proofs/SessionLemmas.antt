@@ -1,7 +1,7 @@
 -- Laws of the command `session`: it is sound (`IsSound-session`), and what `serve` says of a session is
 -- what a run of
 -- the command leaves (`HasRun-session`).
-use Rattle.std.proofs.Common.{◌≡◌, ◌≢◌, ◌⊎◌, inl, inr, ◌≤◌, ◌+◌, ltb, Bool, true, false, ℕ, List, [], length, drop, Option, Some, None, IfSome, refl, ap, sym, subst, ◌∙◌}
+use Rattle.std.proofs.Common.{◌≡◌, ◌≢◌, inl, inr, ◌≤◌, ◌+◌, ltb, Bool, true, false, ℕ, List, [], length, drop, Option, Some, None, IfSome, refl, ap, sym, subst, ◌∙◌}
 use Rattle.std.specs.Option.{option_map}
 use Rattle.std.specs.Io.KnownBytes.{prepend_known}
 use Rattle.wb_base.specs.Lines.{lines_of}

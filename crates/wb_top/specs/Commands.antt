@@ -3,13 +3,15 @@
 -- Source: this project's own.
 --
 --   command_of words     the command, if the words are one
+--   word_command_of name words, term_command_of name words, table_command_of name words
+--                        the same of its name and its arguments, from `normal`, `eval` and `laver` on
 --   meaning_of command   what it means
-use Rattle.std.specs.Prelude.{ℕ, if◌then◌else◌, List, [], ◌∷◌, codes, Option, Some, None}
+use Rattle.std.specs.Prelude.{ℕ, if◌then◌else◌, List, [], ◌∷◌, codes, Option, None}
 use Rattle.std.specs.Option.{option_map}
 use Rattle.std.specs.Str.{bytes_eq}
 use Rattle.wb_command.specs.Args.{last_read}
 use Rattle.wb_command.specs.Meaning.{Meaning}
-use Rattle.wb_compare.specs.Limits.{Limits, limits_of}
+use Rattle.wb_compare.specs.Limits.{limits_of}
 use Rattle.wb_compare.specs.Compare.{compare_meaning}
 use Rattle.wb_compare.specs.Terms.{terms_meaning}
 use Rattle.wb_compare.specs.Same.{same_meaning, strands_of}
@@ -27,6 +29,31 @@ use Rattle.wb_top.specs.Session.{session_meaning}
 use Rattle.wb_top.specs.declared.command.Command.{Command}
 use Rattle.wb_top.specs.declared.command.Command.TheVariants.{Compare, Terms, Check, Normal, Same, Act, Eval, Value, Expand, Derive, Laver, Row, Session, Bench}
 
+-- The command of a name, from `laver` on.
+abbrev pub table_command_of : List ℕ → List (List ℕ) → Option Command
+table_command_of name words =
+    if bytes_eq name (codes "laver") then option_map Laver (laver_of words)
+    else (if bytes_eq name (codes "row") then option_map Row (row_of_words words)
+    else (if bytes_eq name (codes "session") then last_read words Session
+    else (if bytes_eq name (codes "bench") then option_map Bench (bench_of words) else None)))
+
+-- From `eval` on.
+abbrev pub term_command_of : List ℕ → List (List ℕ) → Option Command
+term_command_of name words =
+    if bytes_eq name (codes "eval") then option_map Eval (eval_of words)
+    else (if bytes_eq name (codes "value") then option_map Value (value_of_words words)
+    else (if bytes_eq name (codes "expand") then option_map Expand (expand_of words)
+    else (if bytes_eq name (codes "derive") then last_read words Derive
+    else table_command_of name words)))
+
+-- From `normal` on.
+abbrev pub word_command_of : List ℕ → List (List ℕ) → Option Command
+word_command_of name words =
+    if bytes_eq name (codes "normal") then option_map Normal (normal_of words)
+    else (if bytes_eq name (codes "same") then option_map Same (strands_of words)
+    else (if bytes_eq name (codes "act") then option_map Act (act_of words)
+    else term_command_of name words))
+
 -- The command of some words: its name, and then its arguments.
 abbrev pub command_of : List (List ℕ) → Option Command
 command_of [] = None
@@ -34,17 +61,7 @@ command_of (name ∷ words) =
     if bytes_eq name (codes "compare") then option_map Compare (limits_of words)
     else (if bytes_eq name (codes "terms") then option_map Terms (limits_of words)
     else (if bytes_eq name (codes "check") then last_read words Check
-    else (if bytes_eq name (codes "normal") then option_map Normal (normal_of words)
-    else (if bytes_eq name (codes "same") then option_map Same (strands_of words)
-    else (if bytes_eq name (codes "act") then option_map Act (act_of words)
-    else (if bytes_eq name (codes "eval") then option_map Eval (eval_of words)
-    else (if bytes_eq name (codes "value") then option_map Value (value_of_words words)
-    else (if bytes_eq name (codes "expand") then option_map Expand (expand_of words)
-    else (if bytes_eq name (codes "derive") then last_read words Derive
-    else (if bytes_eq name (codes "laver") then option_map Laver (laver_of words)
-    else (if bytes_eq name (codes "row") then option_map Row (row_of_words words)
-    else (if bytes_eq name (codes "session") then last_read words Session
-    else (if bytes_eq name (codes "bench") then option_map Bench (bench_of words) else None)))))))))))))
+    else word_command_of name words))
 
 abbrev pub meaning_of : Command → Meaning
 meaning_of (Compare limits) = compare_meaning limits

@@ -2,18 +2,18 @@
 ghost use Rattle.std.specs.Prelude.{◌≡◌, ◌≢◌, map, string_bytes};
 ghost use Rattle.wb_command.specs.Args.{last_read};
 ghost use Rattle.wb_command.specs.Meaning.{HasRun, IsSound};
-ghost use Rattle.wb_top.specs.Commands.{command_of, meaning_of};
+ghost use Rattle.wb_top.specs.Commands.{command_of, meaning_of, table_command_of, term_command_of, word_command_of};
 
 use crate::session::Session;
 use std::alloc::Global;
 use wb_base::{Sink, Source, Status};
-use wb_command::{Args, Served, Task, run_task};
+use wb_command::{Args, Served, Streamed, Task, run_streamed, run_task};
 use wb_compare::{Check, Compare, CompareTerms, Same};
 use wb_terms::{Derive, Eval, Expand, Laver, Row, Valuation};
 use wb_words::{Act, Bench, Normal};
 
 /// A command of the program.
-#[derive(Debug, Drop)]
+#[derive(Drop)]
 pub enum Command<'a> {
     /// Compares two words.
     Compare(Compare),
@@ -56,6 +56,55 @@ fn bare<'a>(words: &Args<'a>, command: Command<'a>) -> Option<Command<'a>>
     }
 }
 
+// The command of a name, from `laver` on.
+fn read_table_command<'a>(name: &str, words: &mut Args<'a>) -> Option<Command<'a>>
+    ensures { result ≡ table_command_of name.now words.old }
+{
+    if name == "laver" {
+        Some(Command::Laver(Laver::read(words)?))
+    } else if name == "row" {
+        Some(Command::Row(Row::read(words)?))
+    } else if name == "session" {
+        bare(words, Command::Session)
+    } else if name == "bench" {
+        Some(Command::Bench(Bench::read(words)?))
+    } else {
+        None
+    }
+}
+
+// From `eval` on.
+fn read_term_command<'a>(name: &str, words: &mut Args<'a>) -> Option<Command<'a>>
+    ensures { result ≡ term_command_of name.now words.old }
+{
+    if name == "eval" {
+        Some(Command::Eval(Eval::read(words)?))
+    } else if name == "value" {
+        Some(Command::Value(Valuation::read(words)?))
+    } else if name == "expand" {
+        Some(Command::Expand(Expand::read(words)?))
+    } else if name == "derive" {
+        bare(words, Command::Derive)
+    } else {
+        read_table_command(name, words)
+    }
+}
+
+// From `normal` on.
+fn read_word_command<'a>(name: &str, words: &mut Args<'a>) -> Option<Command<'a>>
+    ensures { result ≡ word_command_of name.now words.old }
+{
+    if name == "normal" {
+        Some(Command::Normal(Normal::read(words)?))
+    } else if name == "same" {
+        Some(Command::Same(Same::read(words)?))
+    } else if name == "act" {
+        Some(Command::Act(Act::read(words)?))
+    } else {
+        read_term_command(name, words)
+    }
+}
+
 /// The command that the words after the program's name are.
 pub fn read_command(words: &[String]) -> Option<Command<'_>>
     ensures { result ≡ command_of (map string_bytes words.now) }
@@ -69,30 +118,8 @@ pub fn read_command(words: &[String]) -> Option<Command<'_>>
         Some(Command::Terms(CompareTerms::read(&mut words)?))
     } else if name == "check" {
         bare(&words, Command::Check)
-    } else if name == "normal" {
-        Some(Command::Normal(Normal::read(&mut words)?))
-    } else if name == "same" {
-        Some(Command::Same(Same::read(&mut words)?))
-    } else if name == "act" {
-        Some(Command::Act(Act::read(&mut words)?))
-    } else if name == "eval" {
-        Some(Command::Eval(Eval::read(&mut words)?))
-    } else if name == "value" {
-        Some(Command::Value(Valuation::read(&mut words)?))
-    } else if name == "expand" {
-        Some(Command::Expand(Expand::read(&mut words)?))
-    } else if name == "derive" {
-        bare(&words, Command::Derive)
-    } else if name == "laver" {
-        Some(Command::Laver(Laver::read(&mut words)?))
-    } else if name == "row" {
-        Some(Command::Row(Row::read(&mut words)?))
-    } else if name == "session" {
-        bare(&words, Command::Session)
-    } else if name == "bench" {
-        Some(Command::Bench(Bench::read(&mut words)?))
     } else {
-        None
+        read_word_command(name, &mut words)
     }
 }
 
@@ -104,7 +131,7 @@ impl<'a> Command<'a> {
         match self {
             Command::Compare(task) => task.law_sound(),
             Command::Terms(task) => task.law_sound(),
-            Command::Check => Check.law_sound(),
+            Command::Check => Check.law_streamed(),
             Command::Normal(task) => task.law_sound(),
             Command::Same(task) => task.law_sound(),
             Command::Act(task) => task.law_sound(),
@@ -150,7 +177,7 @@ pub(crate) fn run_command<S: Source, K: Sink>(
     match command {
         Command::Compare(task) => run_task(alloc, task, source, sink),
         Command::Terms(task) => run_task(alloc, task, source, sink),
-        Command::Check => run_task(alloc, &Check, source, sink),
+        Command::Check => run_streamed(alloc, &Check, source, sink),
         Command::Normal(task) => run_task(alloc, task, source, sink),
         Command::Same(task) => run_task(alloc, task, source, sink),
         Command::Act(task) => run_task(alloc, task, source, sink),

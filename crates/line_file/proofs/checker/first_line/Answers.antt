@@ -15,7 +15,8 @@ returns-then-byte-eq10 c =
     let within : k < i = omega (arith, length-take i bytes) in
     rw (get_or-take i bytes k 0 within) (c.loop-i.invariant k within) in
     rw (take_rest, add-one)
-    (ap cut (split_at bytes i 0 (omega arith) ∙ ap (λ b. take i bytes ++ b ∷ drop (suc i) bytes) c.if-byte-eq10.true)
+    (ap cut (split_at bytes i 0 (omega arith)
+    ∙ ap (λ b. take i bytes ++ b ∷ drop (suc i) bytes) c.if-byte-eq10.true)
     ∙ cut-line (take i bytes) (drop (suc i) bytes) front)
 
 pub returns : goal.returns

@@ -3,8 +3,8 @@ use Rattle.term_graph.specs.TermLists.{term_at}
 use Rattle.wb_compare.proofs.TermsLemmas.{leaf_count-le}
 use Rattle.wb_compare.proofs.terms.compare_braids.Goals as goal
 
-pub strict_text-requires-clause-leaves : goal.strict_text-requires-clause-leaves
-strict_text-requires-clause-leaves c =
+pub compared-requires-clause-left_leaves : goal.compared-requires-clause-left_leaves
+compared-requires-clause-left_leaves c =
     omega (
       arith,
       leaf_count-le (term_at c.args.graph.now c.args.nodes.0),
@@ -12,8 +12,8 @@ strict_text-requires-clause-leaves c =
       c.requires.limit,
     )
 
-pub strict_text-requires-in-Decided-clause-leaves : goal.strict_text-requires-in-Decided-clause-leaves
-strict_text-requires-in-Decided-clause-leaves c =
+pub compared-requires-clause-right_leaves : goal.compared-requires-clause-right_leaves
+compared-requires-clause-right_leaves c =
     omega (
       arith,
       leaf_count-le (term_at c.args.graph.now c.args.nodes.1),
