@@ -236,7 +236,7 @@ push-merge {n} {x} {y} {l} in_x in_y orders between (suc k) =
 -- Let p be y settled between x and l, q be l settled between p and m, and e and f neighbours in p that could
 -- still be exchanged. Settled between y and q the order p becomes l (`settle-merge`), and the exchange of e
 -- and f can come first there: so they stand turned in l, but as in p there, too, since p is settled before l.
-settle-domino
+pub settle-domino
     : {n : ℕ} {x y l m : List ℕ}
     → IsOrder n x
     → IsOrder n y

@@ -68,7 +68,7 @@ pass_turn n start front f stack more o carry t u pass short is moves greedy grow
     (subst (λ k. Moves k o carry t u) size moves) (subst (λ k. IsGreedy k t u) size greedy))
 
 -- moves from a pair that isn't other than greedy are none
-moves_none
+pub moves_none
     : {n : ℕ} {p q r s : List ℕ}
     → Moves n p q r s
     → ((IsGreedy n p q → ⊥) → false ≡ true)

@@ -12,6 +12,7 @@ use Rattle.perm_braid.specs.GreedyPairs.{IsGreedy}
 use Rattle.perm_braid.proofs.PlaceLemmas.{IsOrder-identity}
 use Rattle.perm_braid.proofs.SimpleWordLemmas.{IsOn-word}
 use Rattle.garside_form.specs.NormalForms.{IsFactor, IsNormal, times, IsProduct, empty, factor}
+use Rattle.garside_form.specs.FactorLists.{EachOrder, AreGreedy}
 use Rattle.garside_form.proofs.LeadingLemmas.{IsBefore, neighbours_before}
 use Rattle.garside_form.proofs.SettleLemmas.{IsSettled, IsSettled-from}
 use Rattle.garside_form.proofs.LevelLemmas.{IsOrder-reverse, Levels, IsSame, in_front, push, IsSettledFrom, IsSame-push, IsSame-in_front, IsSame-trans, push-settled, push-half_turn}
@@ -31,7 +32,7 @@ turned_path zero x ps = path x ps
 turned_path (suc a) x ps = in_front (reverse x) (turned_path a (reverse x) ps)
 
 -- an order that is last or first after itself is settled
-still_settled : {n : ℕ} {y : List ℕ} (x : List ℕ) → IsOrder n y → IsSettled x y y
+pub still_settled : {n : ℕ} {y : List ℕ} (x : List ℕ) → IsOrder n y → IsSettled x y y
 still_settled {n} {y} x order =
     IsSettled-from x y order (λ i low high before after. let now =
     neighbours_before order i low high in absurd (omega (arith, now, after)))
@@ -61,37 +62,37 @@ greedy_settled {n} {x} {p} {q} in_x in_p in_q greedy =
     let right = greedy i low high left in
     absurd (omega (arith, at_here, at_next, rising, right)))
 
--- the orders after the factors of a normal form are settled
+-- the rest of a greedy list is greedy
+pub greedy_rest : (n : ℕ) (p : List ℕ) (ps : List (List ℕ)) → AreGreedy n (p ∷ ps) → AreGreedy n ps
+greedy_rest n p [] greedy = tt
+greedy_rest n p (q ∷ ps) greedy = greedy.1
+
+-- the orders after the simple braids of a greedy list are settled
 path_settled
     : {n : ℕ} (ps : List (List ℕ)) {x : List ℕ}
-    → IsNormal n ps
+    → EachOrder n ps
+    → AreGreedy n ps
     → IsOrder n x
     → IsSettledFrom x (path x ps)
-path_settled [] {x} normal order = still
+path_settled [] {x} orders greedy order = still
   where
     still : IsSettledFrom x (λ k. x)
     still zero = still_settled x order
     still (suc k) = still_settled x order
-path_settled {n} (p ∷ []) {x} normal order = last
+path_settled {n} (p ∷ []) {x} orders greedy order = last
   where
     last : IsSettledFrom x (in_front (composed x p) (λ k. composed x p))
-    last zero = still_settled x (IsOrder-composed order normal.order)
-    last (suc zero) = still_settled (composed x p) (IsOrder-composed order normal.order)
-    last (suc (suc k)) = still_settled (composed x p) (IsOrder-composed order normal.order)
-path_settled {n} (p ∷ q ∷ ps) {x} normal order =
-    go (path_settled (q ∷ ps) normal.2 (IsOrder-composed order normal.0.order)) (second ps normal.2)
+    last zero = still_settled x (IsOrder-composed order orders.0)
+    last (suc zero) = still_settled (composed x p) (IsOrder-composed order orders.0)
+    last (suc (suc k)) = still_settled (composed x p) (IsOrder-composed order orders.0)
+path_settled {n} (p ∷ q ∷ ps) {x} orders greedy order =
+    go (path_settled (q ∷ ps) orders.1 greedy.1 (IsOrder-composed order orders.0))
   where
-    second : (ps : List (List ℕ)) → IsNormal n (q ∷ ps) → IsOrder n q
-    second [] rest = rest.order
-    second (r ∷ ps) rest = rest.0.order
-
-    go
-        : IsSettledFrom (composed x p) (path (composed x p) (q ∷ ps))
-        → IsOrder n q
+    go : IsSettledFrom (composed x p) (path (composed x p) (q ∷ ps))
         → IsSettledFrom x (path x (p ∷ q ∷ ps))
-    go rest in_q zero = greedy_settled order normal.0.order in_q normal.1
-    go rest in_q (suc zero) = rest zero
-    go rest in_q (suc (suc k)) = rest (suc k)
+    go rest zero = greedy_settled order orders.0 orders.1.0 greedy.0
+    go rest (suc zero) = rest zero
+    go rest (suc (suc k)) = rest (suc k)
 
 -- the first factor and the rest of a normal form
 pub normal_first : (n : ℕ) (p : List ℕ) (ps : List (List ℕ)) → IsNormal n (p ∷ ps) → IsFactor n p
@@ -109,6 +110,35 @@ pub IsOn-product : {n : ℕ} {ps : List (List ℕ)} {w : List Letter} → IsProd
 IsOn-product empty = tt
 IsOn-product {n} (factor {u = u} {w = w} word rest) = on_append n u w (IsOn-word word) (IsOn-product rest)
 
+-- the factors of a normal form are orders
+pub normal_orders : (n : ℕ) (ps : List (List ℕ)) → IsNormal n ps → EachOrder n ps
+normal_orders n [] normal = tt
+normal_orders n (p ∷ []) normal = (normal.order, tt)
+normal_orders n (p ∷ q ∷ ps) normal = (normal.0.order, normal_orders n (q ∷ ps) normal.2)
+
+-- and a greedy list
+pub normal_greedy : (n : ℕ) (ps : List (List ℕ)) → IsNormal n ps → AreGreedy n ps
+normal_greedy n [] normal = tt
+normal_greedy n (p ∷ []) normal = tt
+normal_greedy n (p ∷ q ∷ ps) normal = (normal.1, normal_greedy n (q ∷ ps) normal.2)
+
+-- the word of a greedy list gives its orders
+pub levels-greedy
+    : {n : ℕ} {ps : List (List ℕ)} {w : List Letter} {x : List ℕ}
+    → EachOrder n ps
+    → AreGreedy n ps
+    → IsOrder n x
+    → IsProduct n ps w
+    → IsSame (levels w 0 x) (path x ps)
+levels-greedy orders greedy order empty = λ k. refl
+levels-greedy {n} {ps} {w} {x} orders greedy order (factor {p = p} {ps = qs} {u = u} {w = v} word rest) =
+    let next = IsOrder-composed order orders.0 in
+    IsSame-trans (levels-way v 0 order next (IsOn-product rest) (IsWay-word order orders.0 word))
+    (IsSame-trans
+    (IsSame-push x
+    (IsSame-in_front (composed x p) (levels-greedy orders.1 (greedy_rest n p qs greedy) next rest)))
+    (push-settled x (path x (p ∷ qs)) (path_settled (p ∷ qs) orders greedy order)))
+
 -- the word of factors that are normal gives their orders
 levels-product
     : {n : ℕ} {ps : List (List ℕ)} {w : List Letter} {x : List ℕ}
@@ -116,18 +146,11 @@ levels-product
     → IsOrder n x
     → IsProduct n ps w
     → IsSame (levels w 0 x) (path x ps)
-levels-product normal order empty = λ k. refl
-levels-product {n} {ps} {w} {x} normal order (factor {p = p} {ps = qs} {u = u} {w = v} word rest) =
-    let first = normal_first n p qs normal in
-    let next = IsOrder-composed order first.order in
-    IsSame-trans (levels-way v 0 order next (IsOn-product rest) (IsWay-word order first.order word))
-    (IsSame-trans
-    (IsSame-push x
-    (IsSame-in_front (composed x p) (levels-product (normal_rest n p qs normal) next rest)))
-    (push-settled x (path x (p ∷ qs)) (path_settled (p ∷ qs) normal order)))
+levels-product {n} {ps} normal order product =
+    levels-greedy (normal_orders n ps normal) (normal_greedy n ps normal) order product
 
 -- one half turn in front
-levels-delta
+pub levels-delta
     : {n : ℕ} {x : List ℕ} (w : List Letter)
     → IsOrder n x
     → IsOn n w

@@ -63,7 +63,7 @@ begins_whole n [] o ps begins = begins
 begins_whole n (p ∷ front) o ps begins = begins
 
 -- two greedy lists in a row, if the pair where they meet is greedy
-greedy_join
+pub greedy_join
     : (n : ℕ) (front ps : List (List ℕ))
     → AreGreedy n front
     → AreGreedy n ps

@@ -49,7 +49,7 @@ path_unique {n} (p ∷ ps) (q ∷ qs) {x} one two order same =
     ) refl
 
 -- a path of factors doesn't begin with a half turn
-path_begins
+pub path_begins
     : {n : ℕ} (ps : List (List ℕ)) {x : List ℕ}
     → 2 ≤ n
     → IsNormal n ps
