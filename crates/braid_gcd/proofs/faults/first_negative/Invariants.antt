@@ -1,0 +1,7 @@
+use Rattle.std.proofs.Common.{take}
+use Rattle.braid_gcd.specs.Divisors.{IsPositiveWord}
+use Rattle.braid_gcd.proofs.faults.first_negative.Given as goal
+
+-- The letters before this one are positive.
+abbrev pub invariant-loop-k : goal.invariant-loop-k
+invariant-loop-k l = IsPositiveWord (take l.k l.letters)

@@ -1,0 +1,4 @@
+pub mod Divisors
+pub mod NormalWords
+pub mod Rounds
+pub mod Faults
