@@ -5,11 +5,10 @@
 use Rattle.std.proofs.Common.{ℕ, ◌≡◌, ◌≤◌, ◌∙◌, pos, List, ◌++◌, sym, ap, subst}
 use Rattle.braid_word.specs.Words.{Letter}
 use Rattle.braid_word.specs.Equivalence.{EquivalentOn}
-use Rattle.braid_word.proofs.EquivalenceLemmas.{EquivalentOn-trans, EquivalentOn-sym}
+use Rattle.braid_word.proofs.EquivalenceLemmas.{EquivalentOn-trans, EquivalentOn-sym, EquivalentOn-cancel}
 use Rattle.garside_form.specs.NormalForms.{delta_power, IsProduct}
 use Rattle.garside_form.proofs.UniqueLemmas.{IsNormal-unique, product_unique}
 use Rattle.braid_gcd.specs.NormalWords.{IsNormalWord, IsAnswerOf}
-use Rattle.braid_gcd.proofs.DivideLemmas.{EquivalentOn-cancel}
 use Rattle.braid_gcd.proofs.GreatestLemmas.{IsGreatest-unique, IsGreatest-equivalent}
 
 -- equivalent words that normal forms spell are one

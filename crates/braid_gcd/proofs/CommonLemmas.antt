@@ -1,6 +1,7 @@
 -- The answer: the letters that were taken out and what is left, as normal words.
 use Rattle.std.proofs.Common.{ℕ, ◌≡◌, ◌≤◌, ◌∙◌, List, [], ◌++◌, length, length-append, ap, arith}
-use Rattle.braid_word.specs.Words.{Letter, IsOn}
+use Rattle.braid_word.specs.Words.{Letter, IsOn, IsPositiveWord}
+use Rattle.braid_word.specs.declared.TheConstants.{MAX_LETTERS}
 use Rattle.braid_word.specs.Equivalence.{EquivalentOn}
 use Rattle.braid_word.proofs.WordLemmas.{on_left}
 use Rattle.braid_word.proofs.EquivalenceLemmas.{on_last, EquivalentOn-trans, EquivalentOn-sym, EquivalentOn-append}
@@ -8,9 +9,9 @@ use Rattle.garside_form.specs.NormalForms.{IsProduct}
 use Rattle.garside_form.specs.FactorLists.{EachOrder}
 use Rattle.garside_form.proofs.NaturalLevelLemmas.{IsOn-product, negatives-product, negatives-natural}
 use Rattle.garside_form.proofs.FactorLemmas.{product_exists}
-use Rattle.braid_gcd.specs.Divisors.{IsPositiveWord}
 use Rattle.braid_gcd.specs.NormalWords.{IsNormalWord, IsAnswerOf}
 use Rattle.braid_gcd.specs.Rounds.{IsDivided, ShareNone, IsListOf, IsSpelledWord}
+use Rattle.braid_gcd.specs.declared.TheConstants.{MAX_DIVIDED}
 use Rattle.braid_gcd.proofs.PositiveLemmas.{length-equivalent, positive_append, positive_from}
 use Rattle.braid_gcd.proofs.GreatestLemmas.{greatest_from}
 use Rattle.braid_gcd.proofs.FirstFactorLemmas.{positive_product}
@@ -22,13 +23,13 @@ use Rattle.braid_gcd.proofs.RoundLemmas.{shares_none-equivalent, divided_short}
 pub record AreLetters (n : ℕ) (letters : List Letter) : Type 0 where
   pub on : IsOn n letters
   pub positive : IsPositiveWord letters
-  pub most : length letters ≤ 100000
+  pub most : length letters ≤ MAX_LETTERS
 
 -- so they are
 pub list_letters
     : (n : ℕ) (none letters slice : List Letter) (ps : List (List ℕ))
     → EachOrder n ps
-    → ((w : List Letter) → IsProduct n ps w → length w ≤ 100000)
+    → ((w : List Letter) → IsProduct n ps w → length w ≤ MAX_LETTERS)
     → none ≡ []
     → ((m : ℕ) → (w : List Letter) → EachOrder m ps → IsProduct m ps w → letters ≡ none ++ w)
     → slice ≡ letters
@@ -66,7 +67,7 @@ divided_begins first second = record {
 pub divided_letters
     : (n : ℕ) (u v g slice : List Letter) (ps qs : List (List ℕ))
     → IsPositiveWord u
-    → length u ≤ 2000
+    → length u ≤ MAX_DIVIDED
     → IsDivided n u v g ps qs
     → slice ≡ g
     → AreLetters n slice
@@ -84,10 +85,10 @@ left_short
     : (n : ℕ) (u g w : List Letter) (ps : List (List ℕ))
     → IsPositiveWord u
     → IsPositiveWord g
-    → length u ≤ 2000
+    → length u ≤ MAX_DIVIDED
     → ((w : List Letter) → IsProduct n ps w → EquivalentOn n u (g ++ w))
     → IsProduct n ps w
-    → length w ≤ 100000
+    → length w ≤ MAX_LETTERS
 left_short n u g w ps positive positive_g few before product =
     let same = length-equivalent (before w product) positive
     (positive_append g w positive_g (positive_product product)) in
@@ -97,10 +98,10 @@ left_short n u g w ps positive positive_g few before product =
 pub first_short
     : (n : ℕ) (u v g w : List Letter) (ps qs : List (List ℕ))
     → IsPositiveWord u
-    → length u ≤ 2000
+    → length u ≤ MAX_DIVIDED
     → IsDivided n u v g ps qs
     → IsProduct n ps w
-    → length w ≤ 100000
+    → length w ≤ MAX_LETTERS
 first_short n u v g w ps qs positive few divided product =
     left_short n u g w ps positive divided.taken.positive few divided.taken.first product
 
@@ -108,10 +109,10 @@ first_short n u v g w ps qs positive few divided product =
 pub second_short
     : (n : ℕ) (u v g w : List Letter) (ps qs : List (List ℕ))
     → IsPositiveWord v
-    → length v ≤ 2000
+    → length v ≤ MAX_DIVIDED
     → IsDivided n u v g ps qs
     → IsProduct n qs w
-    → length w ≤ 100000
+    → length w ≤ MAX_LETTERS
 second_short n u v g w ps qs positive few divided product =
     left_short n v g w qs positive divided.taken.positive few divided.taken.second product
 

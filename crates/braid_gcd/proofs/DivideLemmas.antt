@@ -2,21 +2,12 @@
 --
 -- In a group a word in front is cancelled (`EquivalentOn-cancel`), so divisors are too.
 use Rattle.std.proofs.Common.{ℕ, List, [], ◌++◌, append_assoc, append-nil}
-use Rattle.braid_word.specs.Words.{Letter, IsOn}
+use Rattle.braid_word.specs.Words.{Letter, IsOn, IsPositiveWord}
 use Rattle.braid_word.specs.Equivalence.{EquivalentOn, stay}
 use Rattle.braid_word.proofs.WordLemmas.{on_left, on_right}
-use Rattle.braid_word.proofs.EquivalenceLemmas.{on_first, EquivalentOn-trans, EquivalentOn-after, EquivalentOn-before, EquivalentOn-solve_left, EquivalentOn-drop_left, on_last}
-use Rattle.braid_gcd.specs.Divisors.{IsPositiveWord, Divides}
+use Rattle.braid_word.proofs.EquivalenceLemmas.{on_first, EquivalentOn-trans, EquivalentOn-after, EquivalentOn-before, EquivalentOn-cancel}
+use Rattle.braid_gcd.specs.Divisors.{Divides}
 use Rattle.braid_gcd.proofs.PositiveLemmas.{positive_append}
-
--- a word in front of equivalent words is cancelled
-pub EquivalentOn-cancel
-    : {n : ℕ} (a u v : List Letter)
-    → EquivalentOn n (a ++ u) (a ++ v)
-    → EquivalentOn n u v
-EquivalentOn-cancel {n} a u v chain =
-    EquivalentOn-trans (EquivalentOn-solve_left a u chain)
-    (EquivalentOn-drop_left n a v (on_left n a v (on_last chain)) (on_right n a v (on_last chain)))
 
 -- ---- Divisors ----
 

@@ -1,7 +1,7 @@
 -- Which generators divide the word of a greedy list, and that the normal form of a positive word has no
 -- negative power of the half turn.
 use Rattle.std.proofs.Common.{ℕ, zero, suc, ◌≡◌, ◌↔◌, ◌+◌, ◌-◌, ◌<◌, ◌≤◌, ◌∙◌, ℤ, pos, negsuc, List, [], ◌∷◌, ◌++◌, append_assoc, reverse, refl, sym, subst, arith}
-use Rattle.braid_word.specs.Words.{Letter, inverse}
+use Rattle.braid_word.specs.Words.{Letter, inverse, IsPositiveWord}
 use Rattle.braid_word.specs.Equivalence.{EquivalentOn}
 use Rattle.braid_word.proofs.WordLemmas.{on_append}
 use Rattle.braid_word.proofs.EquivalenceLemmas.{on_first, EquivalentOn-trans, EquivalentOn-after}
@@ -13,7 +13,7 @@ use Rattle.garside_form.specs.FactorLists.{EachOrder, AreGreedy}
 use Rattle.garside_form.proofs.DeltaLemmas.{composed_identity_left}
 use Rattle.garside_form.proofs.NaturalLevelLemmas.{path, levels-greedy, levels-delta, levels-natural, IsOn-product, IsOn-delta, IsOn-times, negatives-product, negatives-natural}
 use Rattle.garside_form.proofs.UniqueLemmas.{path_begins, times_inverse}
-use Rattle.braid_gcd.specs.Divisors.{IsPositiveWord, Divides, SharesNone}
+use Rattle.braid_gcd.specs.Divisors.{Divides, SharesNone}
 use Rattle.braid_gcd.specs.Rounds.{NoneCommon}
 use Rattle.braid_gcd.proofs.PositiveLemmas.{positive_from, negatives-positive}
 use Rattle.braid_gcd.proofs.DivideLemmas.{Divides-on}

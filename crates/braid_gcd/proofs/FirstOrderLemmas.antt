@@ -4,7 +4,7 @@
 -- is one for equivalent positive words (`first_order-equivalent`), and a first letter's pair stands turned in
 -- it (`turned_first`).
 use Rattle.std.proofs.Common.{ℕ, ◌≡◌, inl, inr, ◌+◌, ◌<◌, ◌≤◌, false, List, ap, arith}
-use Rattle.braid_word.specs.Words.{Letter, letter}
+use Rattle.braid_word.specs.Words.{Letter, letter, IsPositiveWord}
 use Rattle.braid_word.specs.Equivalence.{EquivalentOn}
 use Rattle.braid_word.proofs.EquivalenceLemmas.{on_first, on_last}
 use Rattle.perm_braid.specs.Arrangements.{entry, swapped, IsOrder}
@@ -16,7 +16,6 @@ use Rattle.garside_form.proofs.LevelLemmas.{IsSame}
 use Rattle.garside_form.proofs.WordLevelLemmas.{levels}
 use Rattle.garside_form.proofs.EquivalentLevelLemmas.{turns_own, IsSame-equivalent}
 use Rattle.garside_form.proofs.NaturalLevelLemmas.{same_below}
-use Rattle.braid_gcd.specs.Divisors.{IsPositiveWord}
 use Rattle.braid_gcd.proofs.PositiveLemmas.{negatives-positive}
 
 -- ---- First orders ----

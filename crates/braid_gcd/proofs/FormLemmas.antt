@@ -4,7 +4,7 @@ use Rattle.std.proofs.lemmas.List.{drop_more}
 use Rattle.std.proofs.lemmas.Option.{slice_get_within, get_or_from_slice_get}
 use Rattle.std.specs.List.{slice_get}
 use Rattle.std.specs.Prelude.{unsigned_abs}
-use Rattle.braid_word.specs.Words.{Letter}
+use Rattle.braid_word.specs.Words.{Letter, IsPositiveWord}
 use Rattle.braid_word.specs.Equivalence.{EquivalentOn, stay}
 use Rattle.braid_word.proofs.EquivalenceLemmas.{EquivalentOn-trans, EquivalentOn-sym, EquivalentOn-after}
 use Rattle.perm_braid.specs.Arrangements.{half_turn}
@@ -16,7 +16,6 @@ use Rattle.garside_form.specs.FactorLists.{EachOrder, AreGreedy}
 use Rattle.garside_form.proofs.NaturalLevelLemmas.{normal_orders, normal_greedy, IsOn-product, IsOn-delta}
 use Rattle.garside_form.proofs.UniqueLemmas.{product_unique}
 use Rattle.garside_form.proofs.FactorLemmas.{product_exists, product_half_turn}
-use Rattle.braid_gcd.specs.Divisors.{IsPositiveWord}
 use Rattle.braid_gcd.specs.Rounds.{IsListOf, IsSpelledWord}
 use Rattle.braid_gcd.proofs.FirstFactorLemmas.{IsFormOf-positive}
 use Rattle.braid_gcd.proofs.PutInLemmas.{first_of}

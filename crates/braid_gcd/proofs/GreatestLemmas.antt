@@ -7,11 +7,11 @@
 use Rattle.std.proofs.Common.{ℕ, zero, suc, ◌≡◌, inl, inr, ◌≤◌, List, [], ◌∷◌, ◌++◌, length, length-append, append-nil, refl, sym, subst, arith}
 use Rattle.std.proofs.lemmas.Bool.{cases_eq}
 use Rattle.std.proofs.lemmas.List.{nil_from_length}
-use Rattle.braid_word.specs.Words.{Letter, IsOn}
+use Rattle.braid_word.specs.Words.{Letter, IsOn, IsPositiveWord}
 use Rattle.braid_word.specs.Equivalence.{EquivalentOn, stay}
 use Rattle.braid_word.proofs.EquivalenceLemmas.{on_first, on_last, EquivalentOn-trans, EquivalentOn-sym, EquivalentOn-after, EquivalentOn-before}
 use Rattle.perm_braid.specs.SimpleWords.{generator}
-use Rattle.braid_gcd.specs.Divisors.{IsPositiveWord, Divides, IsGreatest, SharesNone}
+use Rattle.braid_gcd.specs.Divisors.{Divides, IsGreatest, SharesNone}
 use Rattle.braid_gcd.proofs.PositiveLemmas.{length-equivalent, positive_append}
 use Rattle.braid_gcd.proofs.DivideLemmas.{Divides-on, Divides-on_rest, Divides-refl, Divides-nil, Divides-first, Divides-last, Divides-trans, Divides-after, Divides-cancel}
 use Rattle.braid_gcd.proofs.FirstOrderLemmas.{letter_positive}

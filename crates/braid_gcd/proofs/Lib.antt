@@ -1,4 +1,3 @@
-pub mod WeightLemmas
 pub mod PositiveLemmas
 pub mod DivideLemmas
 pub mod FirstOrderLemmas
@@ -15,6 +14,5 @@ pub mod TakeLemmas
 pub mod RoundLemmas
 pub mod SpellLemmas
 pub mod FormLemmas
-pub mod NegativeLemmas
 pub mod CommonLemmas
 pub mod LimitFacts

@@ -6,7 +6,7 @@
 -- (`IsMultiple`).
 use Rattle.std.proofs.Common.{ℕ, zero, suc, ◌≡◌, ◌⊎◌, inl, inr, ◌+◌, ◌<◌, ◌≤◌, false, List, [], ◌∷◌, length, refl, sym, subst, arith}
 use Rattle.std.proofs.lemmas.Bool.{cases_eq, cases_lt}
-use Rattle.braid_word.specs.Words.{Letter, IsOn}
+use Rattle.braid_word.specs.Words.{Letter, IsOn, IsPositiveWord}
 use Rattle.braid_word.specs.Equivalence.{EquivalentOn, stay}
 use Rattle.braid_word.proofs.CommutingLemmas.{AreNear, EquivalentOn-swap_far, EquivalentOn-braid}
 use Rattle.braid_word.proofs.EquivalenceLemmas.{EquivalentOn-sym}
@@ -15,7 +15,7 @@ use Rattle.perm_braid.specs.SimpleWords.{generator}
 use Rattle.perm_braid.proofs.PlaceLemmas.{IsOrder-identity}
 use Rattle.perm_braid.proofs.SwapLemmas.{IsOrder-swapped}
 use Rattle.garside_form.proofs.SettleLemmas.{settle}
-use Rattle.braid_gcd.specs.Divisors.{IsPositiveWord, Divides}
+use Rattle.braid_gcd.specs.Divisors.{Divides}
 use Rattle.braid_gcd.proofs.PositiveLemmas.{length-equivalent}
 use Rattle.braid_gcd.proofs.DivideLemmas.{Divides-on, Divides-on_rest, Divides-first, Divides-last, Divides-front, Divides-after}
 use Rattle.braid_gcd.proofs.FirstOrderLemmas.{first_order, first_order-equivalent, letter_positive, IsTurned, turned_not, turned_first}

@@ -1,11 +1,9 @@
 -- Positive words: they have no inverse letter, so where they are equivalent they have the same length.
 use Rattle.std.proofs.Common.{ℕ, ◌≡◌, ◌+◌, Bool, true, false, List, [], ◌∷◌, ◌++◌, length, refl, arith}
-use Rattle.braid_word.specs.Words.{Letter}
+use Rattle.braid_word.specs.Words.{Letter, IsPositiveWord}
 use Rattle.braid_word.specs.Equivalence.{EquivalentOn}
 use Rattle.braid_word.proofs.WordLemmas.{each_append}
-use Rattle.garside_form.proofs.WordLevelLemmas.{taken, negatives}
-use Rattle.braid_gcd.proofs.WeightLemmas.{weight-equivalent}
-use Rattle.braid_gcd.specs.Divisors.{IsPositiveWord}
+use Rattle.braid_word.proofs.WeightLemmas.{taken, negatives, weight-equivalent}
 
 -- the product of positive words is positive
 pub positive_append : (u v : List Letter) → IsPositiveWord u → IsPositiveWord v → IsPositiveWord (u ++ v)

@@ -1,6 +1,6 @@
 -- One round of taking out what the fronts of two lists have in common.
 use Rattle.std.proofs.Common.{ℕ, ◌≡◌, ◌≤◌, List, [], ◌∷◌, ◌++◌, length, length-append, reverse, sym, subst, arith}
-use Rattle.braid_word.specs.Words.{Letter}
+use Rattle.braid_word.specs.Words.{Letter, IsPositiveWord}
 use Rattle.braid_word.specs.Equivalence.{EquivalentOn}
 use Rattle.braid_word.proofs.WordLemmas.{on_left}
 use Rattle.braid_word.proofs.EquivalenceLemmas.{on_last, EquivalentOn-trans, EquivalentOn-sym, EquivalentOn-after}
@@ -8,7 +8,7 @@ use Rattle.garside_form.specs.NormalForms.{IsProduct, empty}
 use Rattle.garside_form.specs.FactorLists.{EachOrder, AreGreedy, KeepsFactors}
 use Rattle.garside_form.proofs.NaturalLevelLemmas.{greedy_rest}
 use Rattle.garside_form.proofs.FactorLemmas.{product_exists}
-use Rattle.braid_gcd.specs.Divisors.{IsPositiveWord, SharesNone}
+use Rattle.braid_gcd.specs.Divisors.{SharesNone}
 use Rattle.braid_gcd.specs.Rounds.{IsPutIn, NoneCommon, IsTakenOut, IsDivided, ShareNone}
 use Rattle.braid_gcd.proofs.PositiveLemmas.{length-equivalent, positive_append}
 use Rattle.braid_gcd.proofs.DivideLemmas.{Divides-last}

@@ -1,11 +1,11 @@
 -- Whether some generator divides two words.
 use Rattle.std.proofs.Common.{ℕ, zero, suc, ◌≡◌, ◌⊎◌, inl, inr, ◌+◌, ◌<◌, ◌≤◌, List, [], ◌∷◌, refl, subst, arith}
 use Rattle.std.proofs.lemmas.Bool.{cases_eq, cases_lt}
-use Rattle.braid_word.specs.Words.{Letter, IsOn}
+use Rattle.braid_word.specs.Words.{Letter, IsOn, IsPositiveWord}
 use Rattle.perm_braid.specs.Arrangements.{entry, place_of, identity}
 use Rattle.perm_braid.specs.SimpleWords.{generator}
 use Rattle.perm_braid.proofs.PlaceLemmas.{IsOrder-identity}
-use Rattle.braid_gcd.specs.Divisors.{IsPositiveWord, Divides, SharesNone}
+use Rattle.braid_gcd.specs.Divisors.{Divides, SharesNone}
 use Rattle.braid_gcd.proofs.PositiveLemmas.{length-equivalent}
 use Rattle.braid_gcd.proofs.DivideLemmas.{Divides-on, Divides-front}
 use Rattle.braid_gcd.proofs.FirstOrderLemmas.{first_order, letter_positive, IsTurned}

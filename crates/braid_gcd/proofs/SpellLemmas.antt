@@ -108,13 +108,13 @@ list_ends n g whole list none before =
 -- one generator of a rising word
 pub rising_step
     : (g more whole : List Letter) (k i : ℕ)
-    → i < k
-    → more ≡ g ++ generator (i + 1) ∷ []
-    → g ++ map generator (range_with_len (i + 1) (k - i)) ≡ whole
-    → more ++ map generator (range_with_len (i + 1 + 1) (k - (i + 1))) ≡ whole
-rising_step g more whole k i less grown same =
-    let e : k - i ≡ suc (k - (i + 1)) = omega (arith, less) in
-    moved_part g more (generator (i + 1) ∷ []) (map generator (range_with_len (i + 1 + 1) (k - (i + 1))))
+    → i ≤ k
+    → more ≡ g ++ generator i ∷ []
+    → g ++ map generator (range_with_len i (k + 1 - i)) ≡ whole
+    → more ++ map generator (range_with_len (i + 1) (k + 1 - (i + 1))) ≡ whole
+rising_step g more whole k i most grown same =
+    let e : k + 1 - i ≡ suc (k + 1 - (i + 1)) = omega (arith, most) in
+    moved_part g more (generator i ∷ []) (map generator (range_with_len (i + 1) (k + 1 - (i + 1))))
     whole grown (rw e at same)
 
 -- one rising word of a half turn

@@ -4,7 +4,6 @@
 -- Source: F. A. Garside, The braid group and other groups, 1969, who shows that each two positive braids
 -- have a greatest common divisor on either side; the side is this project's.
 --
---   IsPositiveWord w     no letter of w is an inverse one
 --   Divides n a b        some positive word behind a gives a word that is equivalent to b on n strands
 --   IsGreatest n u v g   g is positive and divides u and v, and each positive word that divides both divides
 --                        it
@@ -12,14 +11,10 @@
 --
 -- That two positive words have such a divisor, and but one up to equivalence, is the contract of
 -- `law_greatest`.
-use Rattle.std.specs.Prelude.{◌≡◌, ℕ, false, List, [], ◌∷◌, ◌++◌}
-use Rattle.braid_word.specs.Words.{Letter, EachLetter}
+use Rattle.std.specs.Prelude.{ℕ, List, [], ◌∷◌, ◌++◌}
+use Rattle.braid_word.specs.Words.{Letter, IsPositiveWord}
 use Rattle.braid_word.specs.Equivalence.{EquivalentOn}
 use Rattle.perm_braid.specs.SimpleWords.{generator}
-
--- No letter is the inverse of a generator: `1 2 1`.
-abbrev pub IsPositiveWord : List Letter → Type 0
-IsPositiveWord = EachLetter (λ x. x.negative ≡ false)
 
 -- Some positive word behind the first gives the second: on 3 strands `2` divides `1 2 1`, as `2 1 2` is
 -- equivalent to it.

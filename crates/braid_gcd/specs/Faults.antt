@@ -2,20 +2,14 @@
 --
 -- Source: this project's own.
 --
---   first_negative w       the place, counted from 0, of the first inverse letter of w
 --   fault_in first second  which of two words has a letter, whose places are counted from 0, and where it is,
 --                          counted from 1
 --   outside_fault n u v    the first letter that isn't on n strands, of u, or else of v
 --   negative_fault u v     the first inverse letter, of u, or else of v
 --   length_fault u v       the length of u, or else of v, if it has more than MAX_DIVIDED letters
 use Rattle.std.specs.Prelude.{ℕ, ◌+◌, Bool, true, false, nat_lt, if◌then◌else◌, List, length, Option, Some, None}
-use Rattle.std.specs.List.{position}
-use Rattle.braid_word.specs.Words.{Letter, first_outside}
+use Rattle.braid_word.specs.Words.{Letter, first_outside, first_negative}
 use Rattle.braid_gcd.specs.declared.TheConstants.{MAX_DIVIDED}
-
--- The place of the first inverse letter: of `1 -2` it is 1.
-abbrev pub first_negative : List Letter → Option ℕ
-first_negative w = position (λ (x : Letter). x.negative) w
 
 -- Whether it is the second word, and the place, counted from 1: the first word comes first.
 abbrev pub fault_in : Option ℕ → Option ℕ → Option (Bool × ℕ)

@@ -10,12 +10,12 @@
 --   IsListOf n u qs              qs is a greedy list, and its product is the word u
 --   IsSpelledWord n u w          w is the normal word of the positive word u
 use Rattle.std.specs.Prelude.{ℕ, ◌<◌, ◌≤◌, List, ◌++◌}
-use Rattle.braid_word.specs.Words.{Letter}
+use Rattle.braid_word.specs.Words.{Letter, IsPositiveWord}
 use Rattle.braid_word.specs.Equivalence.{EquivalentOn}
 use Rattle.perm_braid.specs.Arrangements.{IsLeftDescent}
 use Rattle.garside_form.specs.NormalForms.{IsProduct}
 use Rattle.garside_form.specs.FactorLists.{EachOrder, AreGreedy, KeepsFactors}
-use Rattle.braid_gcd.specs.Divisors.{IsPositiveWord, SharesNone}
+use Rattle.braid_gcd.specs.Divisors.{SharesNone}
 use Rattle.braid_gcd.specs.NormalWords.{IsNormalWord}
 
 -- A greedy list with the same product.

@@ -1,8 +1,8 @@
 ghost use Rattle.std.specs.Prelude.{◌≡◌, ℕ, ◌<◌, ◌≤◌, Bool, false, List, [], ◌∷◌, ◌++◌, reverse, length, IsTrue, IfSome, IfNone, IfOk, OnOk};
-ghost use Rattle.braid_word.specs.Words.{Letter as Signed};
+ghost use Rattle.braid_word.specs.Words.{Letter as Signed, IsPositiveWord};
 ghost use Rattle.perm_braid.specs.Arrangements.{IsOrder, IsLeftDescent};
-ghost use Rattle.braid_gcd.specs.Divisors.{IsPositiveWord};
 ghost use Rattle.braid_gcd.specs.Rounds.{NoneCommon, IsTakenOut, IsDivided, ShareNone};
+ghost use Rattle.braid_gcd.specs.declared.TheConstants.{MAX_STRANDS};
 
 use crate::pass::put_in;
 use braid_word::Letter;
@@ -14,15 +14,13 @@ fn common_descent(p: &Perm, q: &Perm) -> Option<u32>
     requires equal { length p.now ≡ length q.now }
     ensures some { IfSome result
         (λ i. (1 ≤ i) × (i < length p.now) × IsLeftDescent p.now i × IsLeftDescent q.now i) }
-    ensures small { IfSome result (λ i. i < 64) }
+    ensures small { IfSome result (λ i. i < MAX_STRANDS) }
     ensures none { IfNone result (NoneCommon (length p.now) p.now q.now) }
 {
     let n = p.strands();
     for i in 1..n {
-        if p.is_left_descent(i) {
-            if q.is_left_descent(i) {
-                return Some(i);
-            }
+        if p.is_left_descent(i) && q.is_left_descent(i) {
+            return Some(i);
         }
     }
     None
@@ -77,14 +75,13 @@ fn take_round(
     ensures longer { IfOk result (λ took. IsTrue took → length divisor.old.items < length divisor.new.items) }
     ensures empty { OnOk result (stack.new.items ≡ []) }
 {
-    let Some(last) = first.pop() else {
+    let Some(mut p) = first.pop() else {
         return Ok(false);
     };
-    let Some(other) = second.pop() else {
-        first.push(last)?;
+    let Some(mut q) = second.pop() else {
+        first.push(p)?;
         return Ok(false);
     };
-    let (mut p, mut q) = (last, other);
     let took = take_common(&mut p, &mut q, divisor)?;
     put_in(first, p, stack)?;
     put_in(second, q, stack)?;

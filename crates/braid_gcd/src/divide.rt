@@ -1,10 +1,9 @@
 ghost use Rattle.std.specs.Prelude.{◌≡◌, ◌≤◌, ◌↔◌, ℕ, Bool, List, Some, None, Err, length, IfOk};
-ghost use Rattle.braid_word.specs.Words.{Letter as Signed, IsOn};
+ghost use Rattle.braid_word.specs.Words.{Letter as Signed, IsOn, IsPositiveWord};
 ghost use Rattle.braid_word.specs.declared.TheConstants.{MAX_LETTERS};
-ghost use Rattle.braid_gcd.specs.Divisors.{IsPositiveWord};
 ghost use Rattle.braid_gcd.specs.NormalWords.{IsAnswerOf};
 ghost use Rattle.braid_gcd.specs.Faults.{outside_fault, negative_fault, length_fault};
-ghost use Rattle.braid_gcd.specs.declared.TheConstants.{MAX_DIVIDED};
+ghost use Rattle.braid_gcd.specs.declared.TheConstants.{MAX_DIVIDED, MAX_STRANDS};
 ghost use Rattle.braid_gcd.specs.declared.error.GcdErr.TheVariants.{Strands, Negative, TooLong};
 
 use crate::common::take_all;
@@ -23,7 +22,7 @@ fn common_divisor(
     n: u32,
 ) -> Result<CommonDivisor, AllocError>
     requires low { 2 ≤ n }
-    requires high { n ≤ 64 }
+    requires high { n ≤ MAX_STRANDS }
     requires first_on { IsOn n u.now }
     requires second_on { IsOn n v.now }
     requires first_positive { IsPositiveWord u.now }
@@ -49,7 +48,7 @@ fn common_divisor(
 /// lists of simple braids, after Epstein and others, Word Processing in Groups, chapter 9.
 pub fn gcd(alloc: Global, u: &[Letter], v: &[Letter], n: u32) -> Result<CommonDivisor, GcdErr>
     requires low { 2 ≤ n }
-    requires high { n ≤ 64 }
+    requires high { n ≤ MAX_STRANDS }
     requires first { length u.now ≤ MAX_LETTERS }
     requires second { length v.now ≤ MAX_LETTERS }
     ensures answer { IfOk result (λ c. IsAnswerOf n u.now v.now c.divisor c.left c.right) }

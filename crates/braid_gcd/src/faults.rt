@@ -1,26 +1,10 @@
 ghost use Rattle.std.specs.Prelude.{◌≡◌, ◌<◌, ◌≤◌, length, IfSome, IfNone};
-ghost use Rattle.braid_word.specs.Words.{IsOn};
+ghost use Rattle.braid_word.specs.Words.{IsOn, IsPositiveWord};
 ghost use Rattle.braid_word.specs.declared.TheConstants.{MAX_LETTERS};
-ghost use Rattle.braid_gcd.specs.Divisors.{IsPositiveWord};
-ghost use Rattle.braid_gcd.specs.Faults.{first_negative, fault_in, outside_fault, negative_fault, length_fault};
+ghost use Rattle.braid_gcd.specs.Faults.{fault_in, outside_fault, negative_fault, length_fault};
 
 use crate::MAX_DIVIDED;
-use braid_word::{Letter, first_outside};
-
-// The place, counted from 0, of the first inverse letter.
-fn first_negative(letters: &[Letter]) -> Option<usize>
-    ensures place { result ≡ first_negative letters.now }
-    ensures within { IfSome result (λ k. k < length letters.now) }
-    ensures positive { IfNone result (IsPositiveWord letters.now) }
-{
-    for k in 0..letters.len() {
-        let letter = letters[k];
-        if letter.negative {
-            return Some(k);
-        }
-    }
-    None
-}
+use braid_word::{Letter, first_negative, first_outside};
 
 // Which of two words has a letter at a place counted from 0, and this place counted from 1.
 fn fault_in(first: Option<usize>, second: Option<usize>) -> Option<(bool, u32)>

@@ -1,10 +1,11 @@
 ghost use Rattle.std.specs.Prelude.{◌≡◌, ℕ, ◌≤◌, List, ◌++◌, replicate, reverse, length, unsigned_abs, IfOk, OnOk};
-ghost use Rattle.braid_word.specs.Words.{Letter as Signed, IsOn};
+ghost use Rattle.braid_word.specs.Words.{Letter as Signed, IsOn, IsPositiveWord};
 ghost use Rattle.perm_braid.specs.Arrangements.{half_turn};
 ghost use Rattle.garside_form.specs.NormalForms.{IsProduct};
 ghost use Rattle.garside_form.specs.FactorLists.{EachOrder};
-ghost use Rattle.braid_gcd.specs.Divisors.{IsPositiveWord};
+ghost use Rattle.braid_word.specs.declared.TheConstants.{MAX_LETTERS};
 ghost use Rattle.braid_gcd.specs.Rounds.{IsListOf, IsSpelledWord};
+ghost use Rattle.braid_gcd.specs.declared.TheConstants.{MAX_STRANDS};
 
 use crate::spell::{push_list, push_turns};
 use braid_word::Letter;
@@ -29,7 +30,7 @@ fn factors_of(alloc: Global, form: &NormalForm) -> Result<Vec<Perm>, AllocError>
 // Puts half turns in front of a list, whose first stands last in the vector.
 fn put_turns(alloc: Global, list: &mut Vec<Perm>, n: u32, turns: u32) -> Result<(), AllocError>
     requires low { 2 ≤ n }
-    requires high { n ≤ 64 }
+    requires high { n ≤ MAX_STRANDS }
     ensures { OnOk result
         (reverse list.new.items ≡ replicate turns (half_turn n) ++ reverse list.old.items) }
 {
@@ -49,8 +50,8 @@ fn turns_of(form: &NormalForm) -> u32
 /// A greedy list of a positive word, with the half turns in front; its first stands last in the vector.
 pub(crate) fn greedy_list(alloc: Global, word: &[Letter], n: u32) -> Result<Vec<Perm>, AllocError>
     requires low { 2 ≤ n }
-    requires high { n ≤ 64 }
-    requires most { length word.now ≤ 100000 }
+    requires high { n ≤ MAX_STRANDS }
+    requires most { length word.now ≤ MAX_LETTERS }
     requires on { IsOn n word.now }
     requires positive { IsPositiveWord word.now }
     ensures { IfOk result (λ list. IsListOf n word.now (reverse list.items)) }
@@ -68,8 +69,8 @@ pub(crate) fn normal_word(
     n: u32,
 ) -> Result<Vec<Letter>, AllocError>
     requires low { 2 ≤ n }
-    requires high { n ≤ 64 }
-    requires most { length letters.now ≤ 100000 }
+    requires high { n ≤ MAX_STRANDS }
+    requires most { length letters.now ≤ MAX_LETTERS }
     requires on { IsOn n letters.now }
     requires positive { IsPositiveWord letters.now }
     ensures { IfOk result (λ w. IsSpelledWord n letters.now w.items) }
@@ -85,9 +86,9 @@ pub(crate) fn normal_word(
 /// vector.
 pub(crate) fn list_word(alloc: Global, list: Vec<Perm>, n: u32) -> Result<Vec<Letter>, AllocError>
     requires low { 2 ≤ n }
-    requires high { n ≤ 64 }
+    requires high { n ≤ MAX_STRANDS }
     requires orders { EachOrder n (reverse list.items) }
-    requires most { (w : List Signed) → IsProduct n (reverse list.items) w → length w ≤ 100000 }
+    requires most { (w : List Signed) → IsProduct n (reverse list.items) w → length w ≤ MAX_LETTERS }
     ensures { (w : List Signed) → IsProduct n (reverse list.items) w
         → IfOk result (λ word. IsSpelledWord n w word.items) }
 {

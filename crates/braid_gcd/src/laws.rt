@@ -1,8 +1,8 @@
 // A law of the definition of greatest common divisors. It is the contract of a function that does nothing.
 ghost use Rattle.std.specs.Prelude.{◌≡◌, ℕ, ◌≤◌, List};
-ghost use Rattle.braid_word.specs.Words.{Letter, IsOn};
+ghost use Rattle.braid_word.specs.Words.{Letter, IsOn, IsPositiveWord};
 ghost use Rattle.braid_word.specs.Equivalence.{EquivalentOn};
-ghost use Rattle.braid_gcd.specs.Divisors.{IsPositiveWord, IsGreatest};
+ghost use Rattle.braid_gcd.specs.Divisors.{IsGreatest};
 ghost use Rattle.braid_gcd.specs.NormalWords.{IsNormalWord, IsAnswerOf};
 
 /// Two positive words have a greatest common left divisor on each number of strands that they are on, and two

@@ -20,3 +20,6 @@ pub use laws::law_greatest;
 
 /// The most letters of each of two words that a common divisor is found of.
 pub const MAX_DIVIDED: usize = 2_000;
+
+/// The most strands of words that a common divisor is found of.
+pub const MAX_STRANDS: u32 = 64;

@@ -1,21 +1,11 @@
-ghost use Rattle.std.specs.Prelude.{◌≡◌, [], ◌∷◌, ◌++◌, reverse, length, OnOk};
+ghost use Rattle.std.specs.Prelude.{◌≡◌, [], ◌∷◌, reverse, length, OnOk};
 ghost use Rattle.perm_braid.specs.Arrangements.{IsOrder};
 ghost use Rattle.garside_form.specs.FactorLists.{EachOrder, AreGreedy};
 ghost use Rattle.braid_gcd.specs.Rounds.{IsPutIn};
 
+use garside_form::put_back;
 use perm_braid::{Perm, greedy_pair};
 use std::alloc::AllocError;
-
-// Puts the simple braids of a stack on a list, the last of the stack first.
-fn put_back(list: &mut Vec<Perm>, stack: &mut Vec<Perm>) -> Result<(), AllocError>
-    ensures list { OnOk result (list.new.items ≡ list.old.items ++ reverse stack.old.items) }
-    ensures stack { OnOk result (stack.new.items ≡ []) }
-{
-    while let Some(factor) = stack.pop() {
-        list.push(factor)?;
-    }
-    Ok(())
-}
 
 /// Puts a simple braid in front of a greedy list, whose first stands last in the vector. `stack` is empty
 /// before and after it.

@@ -4,6 +4,7 @@ ghost use Rattle.perm_braid.specs.Arrangements.{IsOrder, IsLeftDescent};
 ghost use Rattle.perm_braid.specs.SimpleWords.{IsWordOf, rising_word, delta_word};
 ghost use Rattle.garside_form.specs.NormalForms.{IsProduct, times};
 ghost use Rattle.garside_form.specs.FactorLists.{EachOrder};
+ghost use Rattle.braid_gcd.specs.declared.TheConstants.{MAX_STRANDS};
 
 use braid_word::Letter;
 use perm_braid::Perm;
@@ -13,7 +14,7 @@ use std::alloc::AllocError;
 fn first_descent(p: &Perm) -> Option<u32>
     ensures some { IfSome result (λ i. (1 ≤ i) × (i < length p.now) × IsLeftDescent p.now i) }
     ensures least { IfSome result (λ i. (j : ℕ) → 1 ≤ j → j < i → IsLeftDescent p.now j → ⊥) }
-    ensures small { IfSome result (λ i. i < 64) }
+    ensures small { IfSome result (λ i. i < MAX_STRANDS) }
     ensures none { IfNone result ((j : ℕ) → 1 ≤ j → j < length p.now → IsLeftDescent p.now j → ⊥) }
 {
     for i in 1..p.strands() {
@@ -53,18 +54,18 @@ pub(crate) fn push_list(word: &mut Vec<Letter>, list: Vec<Perm>) -> Result<(), A
 
 // Puts the generators of the indices from 1 to k behind the others.
 fn push_rising(word: &mut Vec<Letter>, k: u32) -> Result<(), AllocError>
-    requires { k < 64 }
+    requires { k < MAX_STRANDS }
     ensures { OnOk result (word.new.items ≡ word.old.items ++ rising_word k) }
 {
-    for i in 0..k {
-        word.push(Letter::new(i as u16 + 1, false))?;
+    for i in 1..=k {
+        word.push(Letter::new(i as u16, false))?;
     }
     Ok(())
 }
 
 // Puts the half turn behind the others: of 4 strands it is `1 2 3 1 2 1`.
 fn push_delta(word: &mut Vec<Letter>, n: u32) -> Result<(), AllocError>
-    requires { n ≤ 64 }
+    requires { n ≤ MAX_STRANDS }
     ensures { OnOk result (word.new.items ≡ word.old.items ++ delta_word n) }
 {
     for k in (0..n).rev() {
@@ -75,7 +76,7 @@ fn push_delta(word: &mut Vec<Letter>, n: u32) -> Result<(), AllocError>
 
 /// Puts the half turn, so many times, behind the others.
 pub(crate) fn push_turns(word: &mut Vec<Letter>, n: u32, turns: u32) -> Result<(), AllocError>
-    requires { n ≤ 64 }
+    requires { n ≤ MAX_STRANDS }
     ensures { OnOk result (word.new.items ≡ word.old.items ++ times turns (delta_word n)) }
 {
     for _ in 0..turns {

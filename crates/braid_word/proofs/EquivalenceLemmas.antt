@@ -185,6 +185,15 @@ EquivalentOn-solve_left {n} a u chain =
     EquivalentOn-trans (EquivalentOn-sym (EquivalentOn-drop_left n a u on_a on_u))
     (EquivalentOn-after (inverse a) (on_inverse n a on_a) chain)
 
+-- a word in front of equivalent words is cancelled
+pub EquivalentOn-cancel
+    : {n : ℕ} (a u v : List Letter)
+    → EquivalentOn n (a ++ u) (a ++ v)
+    → EquivalentOn n u v
+EquivalentOn-cancel {n} a u v chain =
+    EquivalentOn-trans (EquivalentOn-solve_left a u chain)
+    (EquivalentOn-drop_left n a v (on_left n a v (on_last chain)) (on_right n a v (on_last chain)))
+
 -- where u c and v are equivalent, u and v c^-1 are
 pub EquivalentOn-solve_right
     : {n : ℕ} (u c : List Letter) {v : List Letter}

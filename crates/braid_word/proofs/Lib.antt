@@ -1,5 +1,7 @@
 pub mod WordLemmas
+pub mod NegativeLemmas
 pub mod EquivalenceLemmas
+pub mod WeightLemmas
 pub mod CommutingLemmas
 pub mod RewritingLemmas
 pub mod ShiftLemmas

@@ -1,6 +1,6 @@
 -- Worked rows of words, of their notations and of their signs.
 use Rattle.std.proofs.Common.{◌≡◌, true, false, [], ◌∷◌, Some, None, Ok, Err, codes, refl}
-use Rattle.braid_word.specs.Words.{letter, quotient, shift, first_outside}
+use Rattle.braid_word.specs.Words.{letter, quotient, shift, first_outside, first_negative}
 use Rattle.braid_word.specs.Sign.{sign_of}
 use Rattle.braid_word.specs.Notation.{number_word_of, letters_word_of, word_of, strict_word_of}
 use Rattle.braid_word.specs.declared.reader.WordErr.TheVariants.{BadLetter, BadIndex}
@@ -22,6 +22,13 @@ outside_row
     (first_outside 3 (letter 1 false ∷ letter 2 false ∷ []) ∷ [])
     ≡ Some 1 ∷ (None ∷ [])
 outside_row = refl
+
+-- the second letter of `1 -2` is the first inverse one, and `1 2` has none
+inverse_row
+    : first_negative (letter 1 false ∷ letter 2 true ∷ []) ∷
+    (first_negative (letter 1 false ∷ letter 2 false ∷ []) ∷ [])
+    ≡ Some 1 ∷ (None ∷ [])
+inverse_row = refl
 
 -- `-2 3` is negative at 2
 negative_row : sign_of (letter 2 true ∷ letter 3 false ∷ []) ≡ Negative 2

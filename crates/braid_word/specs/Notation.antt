@@ -15,7 +15,7 @@
 --   IsReadable w            w can be read
 --   word_text w             the strict spelling of w
 --   Gives result read       what a reader answered is what is read, unless memory ran out
-use Rattle.std.specs.Prelude.{◌≡◌, ℕ, ◌+◌, ◌≤◌, ◌||◌, ◌==◌, nat_lt, Bool, not, if◌then◌else◌, List, [], ◌∷◌, length, map, filter, Option, Some, None, Result, Ok, Err}
+use Rattle.std.specs.Prelude.{ℕ, ◌+◌, ◌≤◌, ◌||◌, ◌==◌, nat_lt, Bool, not, if◌then◌else◌, List, [], ◌∷◌, length, map, filter, Option, Some, None, Result, Ok, Err}
 use Rattle.std.specs.List.{join_with_byte}
 use Rattle.wb_base.specs.Memory.{UnlessMemory}
 use Rattle.wb_base.specs.Numbers.{signed_text}

@@ -15,10 +15,12 @@
 --   SomeLetter P w    P holds of some letter of w
 --   IsWord w          every index of w is at least 1
 --   IsOn n w          w is a word on n strands: every index is at least 1 and below n
+--   IsPositiveWord w  no letter of w is an inverse one
 --   first_outside n w the place of the first letter of w that isn't on n strands
+--   first_negative w  the place of the first inverse letter of w
 --
 -- The laws stand in `proofs/WordLemmas.antt`.
-use Rattle.std.specs.Prelude.{ℕ, ◌+◌, ◌<◌, ◌≤◌, Bool, not, nat_lt, List, [], ◌∷◌, ◌++◌, ◌⊎◌, map, Option}
+use Rattle.std.specs.Prelude.{◌≡◌, ℕ, ◌+◌, ◌<◌, ◌≤◌, Bool, false, not, nat_lt, List, [], ◌∷◌, ◌++◌, ◌⊎◌, map, Option}
 use Rattle.std.specs.List.{position}
 
 -- ---- Letters ----
@@ -71,6 +73,14 @@ IsWord = EachLetter (λ x. 1 ≤ x.index)
 abbrev pub IsOn : ℕ → List Letter → Type 0
 IsOn n = EachLetter (λ x. (1 ≤ x.index) × (x.index < n))
 
+-- No letter is the inverse of a generator: `1 2 1`.
+abbrev pub IsPositiveWord : List Letter → Type 0
+IsPositiveWord = EachLetter (λ x. x.negative ≡ false)
+
 -- The place, counted from 0, of the first letter whose index is n or more: of `1 3 4` on 3 strands it is 1.
 abbrev pub first_outside : ℕ → List Letter → Option ℕ
 first_outside n w = position (λ (x : Letter). not (nat_lt x.index n)) w
+
+-- The place, counted from 0, of the first inverse letter: of `1 -2` it is 1.
+abbrev pub first_negative : List Letter → Option ℕ
+first_negative w = position (λ (x : Letter). x.negative) w

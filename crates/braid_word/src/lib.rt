@@ -14,7 +14,7 @@ pub use account::Account;
 pub use letter::Letter;
 pub use reader::{WordErr, read_strict_word, read_word};
 pub use sign::{Sign, sign_of};
-pub use word::{Word, first_outside, inverse, quotient};
+pub use word::{Word, first_negative, first_outside, inverse, quotient};
 pub use writer::{put_letter, put_next_letter, put_word};
 
 /// The greatest index of a letter in a word that is read.

@@ -1,6 +1,6 @@
 use crate::{
-    Letter, MAX_LETTERS, Sign, Word, WordErr, first_outside, inverse, put_word, quotient,
-    read_strict_word, read_word, sign_of,
+    Letter, MAX_LETTERS, Sign, Word, WordErr, first_negative, first_outside, inverse, put_word,
+    quotient, read_strict_word, read_word, sign_of,
 };
 use std::alloc::Global;
 use std::test::Fail;
@@ -90,7 +90,9 @@ fn reads_the_strict_spelling_and_no_other(rt: HostRuntime) -> Result<(), Fail> {
 }
 
 #[test]
-fn inverts_divides_and_finds_the_first_letter_outside(rt: HostRuntime) -> Result<(), Fail> {
+fn inverts_divides_and_finds_the_first_letters_outside_and_negative(
+    rt: HostRuntime,
+) -> Result<(), Fail> {
     let alloc = rt.alloc();
     let word = read_word(alloc, b"1 2 -3")?;
     let inverted = inverse(alloc, word.letters())?;
@@ -100,6 +102,7 @@ fn inverts_divides_and_finds_the_first_letter_outside(rt: HostRuntime) -> Result
     );
     assert_eq!(rt; first_outside(word.letters(), 3), Some(2));
     assert_eq!(rt; first_outside(word.letters(), 4), None);
+    assert_eq!(rt; first_negative(word.letters()), Some(2));
     let left = read_word(alloc, b"1 2")?;
     let right = read_word(alloc, b"2 1")?;
     let divided = quotient(alloc, left.letters(), right.letters())?;

@@ -1,5 +1,5 @@
 ghost use Rattle.std.specs.Prelude.{◌≡◌, ◌<◌, [], ◌∷◌, ◌++◌, length, IfOk, OnOk, OnErr, IfSome, IfNone};
-ghost use Rattle.braid_word.specs.Words.{inverse, quotient, IsOn, first_outside};
+ghost use Rattle.braid_word.specs.Words.{inverse, quotient, IsOn, IsPositiveWord, first_outside, first_negative};
 
 use crate::letter::Letter;
 use std::alloc::{AllocError, Global};
@@ -100,6 +100,21 @@ pub fn first_outside(letters: &[Letter], strands: u32) -> Option<usize>
     for k in 0..letters.len() {
         let letter = letters[k];
         if strands <= u32::from(letter.index()) {
+            return Some(k);
+        }
+    }
+    None
+}
+
+/// The place, counted from 0, of the first inverse letter.
+pub fn first_negative(letters: &[Letter]) -> Option<usize>
+    ensures place { result ≡ first_negative letters.now }
+    ensures within { IfSome result (λ k. k < length letters.now) }
+    ensures positive { IfNone result (IsPositiveWord letters.now) }
+{
+    for k in 0..letters.len() {
+        let letter = letters[k];
+        if letter.negative {
             return Some(k);
         }
     }

@@ -9,6 +9,7 @@ use Rattle.braid_word.specs.Words.{Letter, letter, IsOn}
 use Rattle.braid_word.specs.Equivalence.{Relation, commutation, braiding, cancellation, left_side, right_side, DifferByOne, forward, backward, EquivalentOn, stay, move}
 use Rattle.braid_word.proofs.WordLemmas.{on_left, on_right}
 use Rattle.braid_word.proofs.EquivalenceLemmas.{on_first}
+use Rattle.braid_word.proofs.WeightLemmas.{taken, negatives}
 use Rattle.perm_braid.specs.Arrangements.{entry, swapped, IsOrder}
 use Rattle.perm_braid.specs.SimpleWords.{generator}
 use Rattle.perm_braid.proofs.SwapLemmas.{entry-swapped_here, entry-swapped_next, entry-swapped_other, IsOrder-swapped}
@@ -16,7 +17,7 @@ use Rattle.perm_braid.proofs.SortingLemmas.{swapped_far, swapped_near, swapped-s
 use Rattle.garside_form.proofs.LeadingLemmas.{IsBefore, neighbours_before}
 use Rattle.garside_form.proofs.SettleLemmas.{IsBetween}
 use Rattle.garside_form.proofs.LevelLemmas.{IsOrder-reverse, IsBetween-reverse, IsSame, in_front, push, IsSame-push, IsSame-in_front, IsSame-trans, IsSame-sym, AreOrders-in_front, push-merge, push-half_turn}
-use Rattle.garside_form.proofs.WordLevelLemmas.{turned_by, IsOrder-turned, lower, taken, negatives, levels, lower_fits, AreOrders-levels, IsSettledFrom-levels, levels-more, arrive, cross, levels-ways}
+use Rattle.garside_form.proofs.WordLevelLemmas.{turned_by, IsOrder-turned, lower, levels, lower_fits, AreOrders-levels, IsSettledFrom-levels, levels-more, arrive, cross, levels-ways}
 
 -- ---- Relations ----
 

@@ -6,6 +6,7 @@ use Rattle.std.proofs.Common.{ℕ, zero, suc, ◌≡◌, ◌+◌, ◌∙◌, Lis
 use Rattle.std.proofs.lemmas.List.{reverse-reverse}
 use Rattle.braid_word.specs.Words.{Letter, IsOn}
 use Rattle.braid_word.proofs.WordLemmas.{on_append}
+use Rattle.braid_word.proofs.WeightLemmas.{negatives, negatives-append}
 use Rattle.perm_braid.specs.Arrangements.{entry, IsOrder, IsLeftDescent}
 use Rattle.perm_braid.specs.SimpleWords.{delta_word, IsWordOf, nothing, least}
 use Rattle.perm_braid.specs.GreedyPairs.{IsGreedy}
@@ -16,7 +17,7 @@ use Rattle.garside_form.specs.FactorLists.{EachOrder, AreGreedy}
 use Rattle.garside_form.proofs.LeadingLemmas.{IsBefore, neighbours_before}
 use Rattle.garside_form.proofs.SettleLemmas.{IsSettled, IsSettled-from}
 use Rattle.garside_form.proofs.LevelLemmas.{IsOrder-reverse, Levels, IsSame, in_front, push, IsSettledFrom, IsSame-push, IsSame-in_front, IsSame-trans, push-settled, push-half_turn}
-use Rattle.garside_form.proofs.WordLevelLemmas.{negatives, levels, IsSettledFrom-levels, levels-more, negatives-append, IsWay, arrive, cross, IsOn-way, levels-way}
+use Rattle.garside_form.proofs.WordLevelLemmas.{levels, IsSettledFrom-levels, levels-more, IsWay, arrive, cross, IsOn-way, levels-way}
 use Rattle.garside_form.proofs.ComposedLemmas.{composed, entry-composed, IsOrder-composed, place_of-composed, IsWay-word, IsWay-delta}
 
 -- ---- The orders of a normal form ----
@@ -32,7 +33,7 @@ turned_path zero x ps = path x ps
 turned_path (suc a) x ps = in_front (reverse x) (turned_path a (reverse x) ps)
 
 -- an order that is last or first after itself is settled
-pub still_settled : {n : ℕ} {y : List ℕ} (x : List ℕ) → IsOrder n y → IsSettled x y y
+still_settled : {n : ℕ} {y : List ℕ} (x : List ℕ) → IsOrder n y → IsSettled x y y
 still_settled {n} {y} x order =
     IsSettled-from x y order (λ i low high before after. let now =
     neighbours_before order i low high in absurd (omega (arith, now, after)))

@@ -7,6 +7,7 @@
 -- (`levels-way`).
 use Rattle.std.proofs.Common.{ℕ, zero, suc, ◌≡◌, inl, inr, ◌+◌, ◌<◌, ◌≤◌, Bool, true, false, List, [], ◌∷◌, ◌++◌, reverse, subst, arith}
 use Rattle.braid_word.specs.Words.{Letter, IsOn}
+use Rattle.braid_word.proofs.WeightLemmas.{taken, negatives}
 use Rattle.perm_braid.specs.Arrangements.{entry, swapped, IsOrder}
 use Rattle.perm_braid.specs.SimpleWords.{generator}
 use Rattle.perm_braid.proofs.SwapLemmas.{IsOrder-swapped}
@@ -49,16 +50,6 @@ lower false d = d
 lower true zero = zero
 lower true (suc d) = d
 
--- How many half turns a letter of this sign takes.
-abbrev pub taken : Bool → ℕ
-taken false = 0
-taken true = 1
-
--- How many letters are negative.
-abbrev pub negatives : List Letter → ℕ
-negatives [] = 0
-negatives (c ∷ w) = taken c.negative + negatives w
-
 -- The settled sequence of a word from the order x, with d half turns in front.
 abbrev pub levels : List Letter → ℕ → List ℕ → Levels
 levels [] zero x = λ k. x
@@ -73,11 +64,6 @@ pub lower_fits : (b : Bool) (d k : ℕ) → taken b + k ≤ d → k ≤ lower b 
 lower_fits false d k fits = omega arith
 lower_fits true zero k fits = absurd (omega arith)
 lower_fits true (suc d) k fits = omega arith
-
--- negative letters of two words
-pub negatives-append : (u v : List Letter) → negatives (u ++ v) ≡ negatives u + negatives v
-negatives-append [] v = omega arith
-negatives-append (c ∷ u) v = let rest = negatives-append u v in omega (arith, rest)
 
 -- all are orders
 pub AreOrders-levels : {n : ℕ} {x : List ℕ} (w : List Letter) (d : ℕ) → IsOrder n x → IsOn n w

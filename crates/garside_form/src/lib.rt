@@ -14,5 +14,6 @@ mod writer;
 pub use error::NormalErr;
 pub use form::{NormalForm, same};
 pub use law::law_one_form;
+pub use lists::put_back;
 pub use make::{normal, normal_on};
 pub use writer::put_normal;

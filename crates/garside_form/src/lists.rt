@@ -5,8 +5,9 @@ ghost use Rattle.garside_form.specs.FactorLists.{EachOrder, AreGreedy, BeginsSho
 use perm_braid::{Perm, greedy_pair};
 use std::alloc::AllocError;
 
-// Puts the simple braids of a stack behind the others, the last of the stack first.
-fn put_back(list: &mut Vec<Perm>, stack: &mut Vec<Perm>) -> Result<(), AllocError>
+/// Puts the simple braids of a stack behind those of a list, the last of the stack first, and leaves the stack
+/// empty.
+pub fn put_back(list: &mut Vec<Perm>, stack: &mut Vec<Perm>) -> Result<(), AllocError>
     ensures list { OnOk result (list.new.items ≡ list.old.items ++ reverse stack.old.items) }
     ensures stack { OnOk result (stack.new.items ≡ []) }
 {

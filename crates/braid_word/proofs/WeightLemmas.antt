@@ -1,10 +1,28 @@
 -- The weight of a word: its letters less twice the inverse ones.
 --
 -- Each relation keeps it, so equivalent words have the same weight (`weight-equivalent`).
-use Rattle.std.proofs.Common.{ℕ, ◌≡◌, ◌+◌, true, false, List, ◌++◌, length, length-append, refl, sym, arith}
+use Rattle.std.proofs.Common.{ℕ, ◌≡◌, ◌+◌, Bool, true, false, List, [], ◌∷◌, ◌++◌, length, length-append, refl, sym, arith}
 use Rattle.braid_word.specs.Words.{Letter}
 use Rattle.braid_word.specs.Equivalence.{Relation, commutation, braiding, cancellation, left_side, right_side, DifferByOne, forward, backward, EquivalentOn, stay, move}
-use Rattle.garside_form.proofs.WordLevelLemmas.{negatives, negatives-append}
+
+-- ---- Inverse letters ----
+
+-- 1 for the sign of an inverse letter, and 0 for that of a generator.
+abbrev pub taken : Bool → ℕ
+taken false = 0
+taken true = 1
+
+-- How many letters are negative.
+abbrev pub negatives : List Letter → ℕ
+negatives [] = 0
+negatives (c ∷ w) = taken c.negative + negatives w
+
+-- negative letters of two words
+pub negatives-append : (u v : List Letter) → negatives (u ++ v) ≡ negatives u + negatives v
+negatives-append [] v = omega arith
+negatives-append (c ∷ u) v = let rest = negatives-append u v in omega (arith, rest)
+
+-- ---- Weight ----
 
 -- Both words have as many letters, less twice the inverse ones.
 abbrev pub SameWeight : List Letter → List Letter → Type 0

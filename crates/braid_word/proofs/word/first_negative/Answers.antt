@@ -1,9 +1,8 @@
 use Rattle.std.proofs.Common.{◌∙◌, sym, ap, subst, arith}
 use Rattle.std.proofs.lemmas.List.{take_all}
-use Rattle.braid_word.specs.Words.{Letter}
-use Rattle.braid_gcd.specs.Divisors.{IsPositiveWord}
-use Rattle.braid_gcd.proofs.NegativeLemmas.{first_negative-here, first_negative-positive}
-use Rattle.braid_gcd.proofs.faults.first_negative.Goals as goal
+use Rattle.braid_word.specs.Words.{Letter, IsPositiveWord}
+use Rattle.braid_word.proofs.NegativeLemmas.{first_negative-here, first_negative-positive}
+use Rattle.braid_word.proofs.word.first_negative.Goals as goal
 
 pub returns-then-letter-clause-place : goal.returns-then-letter-clause-place
 returns-then-letter-clause-place c =

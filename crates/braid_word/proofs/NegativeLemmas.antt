@@ -2,9 +2,7 @@
 use Rattle.std.proofs.Common.{ℕ, zero, suc, ◌≡◌, ◌<◌, true, List, [], ◌∷◌, Some, None, length, take, get_or, refl, subst, arith}
 use Rattle.std.specs.List.{position_or_len}
 use Rattle.std.proofs.lemmas.Bool.{lt-ltb, le-ltb}
-use Rattle.braid_word.specs.Words.{Letter}
-use Rattle.braid_gcd.specs.Divisors.{IsPositiveWord}
-use Rattle.braid_gcd.specs.Faults.{first_negative}
+use Rattle.braid_word.specs.Words.{Letter, IsPositiveWord, first_negative}
 
 -- a positive word has no place of one
 position-positive
