@@ -4,6 +4,7 @@ pub mod ReductLemmas
 pub mod ReductLength
 pub mod NoHandleLemmas
 pub mod HandleFacts
+pub mod PuttingLemmas
 pub mod CursorLemmas
 pub mod FrontLemmas
 pub mod SurveyLemmas

@@ -16,4 +16,5 @@ mod walk;
 pub use closing::take_back;
 pub use handle::{is_handle, leftmost};
 pub use rewrite::{reduct, reduct_len};
-pub use scan::{Advance, Scan};
+pub use scan::{Advance, Scan, put_word};
+pub use walk::letter_at;

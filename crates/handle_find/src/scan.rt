@@ -1,4 +1,5 @@
 ghost use Rattle.std.specs.Prelude.{◌≡◌, ◌+◌, ◌-◌, ◌<◌, ◌≤◌, false, true, [], ◌∷◌, ◌++◌, length, slice_get, IfOk, MatchOption};
+ghost use Rattle.braid_word.specs.Words.{inverse, quotient};
 ghost use Rattle.braid_word.specs.Sign.{sign_of};
 ghost use Rattle.gap_word.specs.Gap.{gap, PopsLeft, PopsRight};
 ghost use Rattle.gap_word.specs.declared.TheConstants.{MAX_ROOM};
@@ -46,14 +47,25 @@ impl Model for Scan {
     ghost invariant = { λ s. IsScan s.letters s.runs };
 }
 
-// Puts the letters of a word in front of right, where they keep their order.
-fn put_word(letters: &mut GapWord<Letter>, word: &[Letter])
+/// Puts the letters of a word in front of right, where they keep their order.
+pub fn put_word(letters: &mut GapWord<Letter>, word: &[Letter])
     requires { length word.now ≤ letters.old.spare }
     ensures { letters.new ≡ gap letters.old.left (word.now ++ letters.old.right)
         (letters.old.spare - length word.now) }
 {
     for k in (0..word.len()).rev() {
         letters.push_right(word[k]);
+    }
+}
+
+// Puts the inverse of a word in front of right.
+fn put_inverse(letters: &mut GapWord<Letter>, word: &[Letter])
+    requires { length word.now ≤ letters.old.spare }
+    ensures { letters.new ≡ gap letters.old.left (inverse word.now ++ letters.old.right)
+        (letters.old.spare - length word.now) }
+{
+    for letter in word {
+        letters.push_right(letter.opposite());
     }
 }
 
@@ -64,9 +76,25 @@ impl Scan {
         requires room { room ≤ MAX_ROOM }
         ensures { IfOk result (λ s. s ≡ gap [] word.now (room - length word.now)) }
     {
+        Scan::of_quotient(alloc, &[], word, room)
+    }
+
+    /// A scan with the cursor before the first letter of u^-1 v, and room for so many letters in all.
+    pub fn of_quotient(
+        alloc: Global,
+        u: &[Letter],
+        v: &[Letter],
+        room: usize,
+    ) -> Result<Scan, AllocError>
+        requires words { length u.now + length v.now ≤ room }
+        requires room { room ≤ MAX_ROOM }
+        ensures { IfOk result
+            (λ s. s ≡ gap [] (quotient u.now v.now) (room - (length u.now + length v.now))) }
+    {
         let mut letters = GapWord::with_capacity(alloc, room)?;
         let runs = GapWord::with_capacity(alloc, room)?;
-        put_word(&mut letters, word);
+        put_word(&mut letters, v);
+        put_inverse(&mut letters, u);
         Ok(Scan { letters, runs })
     }
 

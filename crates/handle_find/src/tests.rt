@@ -3,8 +3,10 @@ ghost use Rattle.handle_find.specs.Scans.{IsHandleAtCursor};
 
 use crate::handle::{is_handle, leftmost};
 use crate::rewrite::{reduct, reduct_len};
-use crate::scan::{Advance, Scan};
+use crate::scan::{Advance, Scan, put_word};
+use crate::walk::letter_at;
 use braid_word::{Letter, Word};
+use gap_word::GapWord;
 use std::alloc::Global;
 use std::process::Abort;
 use std::test::Fail;
@@ -187,5 +189,20 @@ fn scans_agree_with_searches_from_the_front(rt: HostRuntime) -> Result<(), Fail>
             assert_reduces(&rt, rt.alloc(), &mut scan, start, row)?;
         }
     }
+    Ok(())
+}
+
+#[test]
+fn letters_are_put_read_and_taken_back(rt: HostRuntime) -> Result<(), Fail> {
+    let word = word_of(&rt, rt.alloc(), &[1, 2, 3, -1])?;
+    let mut letters = GapWord::with_capacity(rt.alloc(), 10)?;
+    assert!(rt; word.letters().len() <= letters.spare());
+    put_word(&mut letters, word.letters());
+    for _ in 0..3 {
+        let _ = letters.step_right();
+    }
+    assert!(rt; letters.left_len() == 3 && letters.right_len() == 1 && letters.spare() == 6);
+    let first = letter_at(&letters, 0);
+    assert_eq!(rt; first, Letter::new(1, false));
     Ok(())
 }

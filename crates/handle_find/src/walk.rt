@@ -9,8 +9,8 @@ use crate::handle::are_opposite;
 use braid_word::Letter;
 use gap_word::GapWord;
 
-// The letter at a place.
-pub(crate) fn letter_at(letters: &GapWord<Letter>, k: usize) -> Letter
+/// The letter of left at a place, counted from 0.
+pub fn letter_at(letters: &GapWord<Letter>, k: usize) -> Letter
     requires { k < length letters.now.left }
     ensures { result ≡ at letters.now.left k }
 {

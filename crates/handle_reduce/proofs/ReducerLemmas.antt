@@ -1,14 +1,16 @@
 -- What one step of a reducer makes of its run.
 --
 -- The premises are the clauses of the calls that the step makes, over plain variables.
-use Rattle.std.proofs.Common.{◌≡◌, ℕ, ◌+◌, ◌<◌, ◌≤◌, List, [], ◌∷◌, ◌++◌, length, Option, Some, refl, ap, sym, ◌∙◌, ◌-◌, arith}
-use Rattle.std.proofs.lemmas.Bool.{lt-ltb, le-ltb}
+use Rattle.std.proofs.Common.{◌≡◌, ℕ, ◌+◌, ◌<◌, ◌≤◌, List, [], ◌∷◌, ◌++◌, length, Option, Some, refl, ap, sym, ◌∙◌, ◌-◌, arith, inl, inr, None}
+use Rattle.std.proofs.lemmas.Bool.{lt-ltb, le-ltb, eq-eqb, cases_eq}
 use Rattle.braid_word.specs.Words.{Letter}
 use Rattle.handle_find.specs.Handles.{IsHandle, leftmost_of, reduct}
 use Rattle.braid_word.specs.declared.TheConstants.{MAX_LETTERS}
 use Rattle.handle_reduce.specs.Runs.{RunState, LimitedRun, IsRunAfter, judged, turn_of, turned, turns, run_after}
 use Rattle.handle_reduce.specs.declared.progress.Progress.{Progress}
-use Rattle.handle_reduce.specs.declared.progress.Progress.TheVariants.{Running, LengthMet}
+use Rattle.handle_reduce.specs.declared.TheConstants.{MAX_BOUND}
+use Rattle.handle_reduce.specs.Rooms.{Keeps}
+use Rattle.handle_reduce.specs.declared.progress.Progress.TheVariants.{Running, HandlesMet, LengthMet}
 use Rattle.handle_find.proofs.HandleLemmas.{leftmost_of-Some}
 use Rattle.handle_reduce.proofs.RunLemmas.{turns-add, turns-ended, run_after-add}
 
@@ -47,6 +49,67 @@ unfolding run_after
 IsRunAfter-short w present steps handles limit found progress same none short is judgement =
     let test = le-ltb limit (length w) (rw same at short) in
     rw (judgement, is, same, none, test) refl
+
+-- a run that goes on may make a reduction
+judged-Running
+    : (handles : ℕ) (w : List Letter) (found : Option (ℕ × ℕ))
+    → judged handles 0 w found ≡ Running
+    → 0 < handles
+judged-Running handles w None is = absurd cc
+judged-Running handles w (Some h) is = elim (cases_eq 0 handles) [
+  | inl none ↦ absurd (met (rw (eq-eqb 0 handles none) at is))
+  | inr some ↦ omega (arith, some)
+]
+  where
+    met : HandlesMet ≡ Running → ⊥
+    met e = absurd cc
+
+-- what a reducer keeps of a word that is too long
+pub Keeps-long
+    : (left right : List Letter) (steps : List (ℕ × ℕ)) (handles limit room steps_room : ℕ)
+    → handles ≤ MAX_BOUND
+    → limit ≤ MAX_BOUND
+    → length (left ++ right) ≤ MAX_LETTERS
+    → steps ≡ []
+    → Keeps LengthMet left right steps 0 handles limit room steps_room
+Keeps-long left right steps handles limit room steps_room few small short none = record {
+  few_handles = few;
+  small_limit = small;
+  short_word = short;
+  few_steps = let count = ap length none in omega (arith, count);
+  running = λ is. absurd cc;
+}
+
+-- and of one that isn't
+pub Keeps-short
+    : (left right : List Letter) (steps : List (ℕ × ℕ)) (start handles limit room steps_room : ℕ)
+    (progress : Progress)
+    → handles ≤ MAX_BOUND
+    → limit ≤ MAX_BOUND
+    → length (left ++ right) ≤ MAX_LETTERS
+    → length (left ++ right) ≤ limit
+    → steps ≡ []
+    → (progress ≡ Running → leftmost_of (left ++ right) ≡ Some (start, length left))
+    → progress ≡ judged handles 0 (left ++ right) (leftmost_of (left ++ right))
+    → limit < room
+    → handles ≤ steps_room
+    → Keeps progress left right steps start handles limit room steps_room
+Keeps-short left right steps start handles limit room steps_room progress few small word short none leftmost
+    judgement has_room has_steps = record {
+      few_handles = few;
+      small_limit = small;
+      short_word = word;
+      few_steps = let count = ap length none in omega (arith, count);
+      running = λ is. record {
+        leftmost = leftmost is;
+        short = short;
+        fewer = let count = ap length none in
+            let some = judged-Running handles (left ++ right) (leftmost_of (left ++ right)) (sym judgement ∙ is) in
+            omega (arith, count, some);
+        has_room = has_room;
+        steps_have_room = has_steps;
+      };
+    }
 
 -- ---- A step ----
 

@@ -1,5 +1,5 @@
 ghost use Rattle.std.specs.Prelude.{◌≡◌, ◌≢◌, ℕ, ◌+◌, ◌≤◌, ◌<◌, List, [], ◌++◌, length, slice_get, Some, None, IfOk, IfNone, IsTrue, ◌↔◌};
-ghost use Rattle.braid_word.specs.Words.{Letter as Signed, IsOn};
+ghost use Rattle.braid_word.specs.Words.{Letter as Signed, IsOn, quotient};
 ghost use Rattle.braid_word.specs.Equivalence.{EquivalentOn};
 ghost use Rattle.braid_word.specs.declared.TheConstants.{MAX_LETTERS};
 ghost use Rattle.handle_find.specs.Handles.{leftmost_of};
@@ -68,9 +68,28 @@ impl Reducer {
         requires limit { limit ≤ MAX_BOUND }
         ensures { IfOk result (λ r. IsRunAfter word handles limit 0 r) }
     {
-        let len = word.letters().len();
+        Reducer::of_quotient(alloc, &[], word.letters(), handles, limit)
+    }
+
+    /// The run of u^-1 v with these limits, before its first turn. The quotient is made in its place, and in
+    /// no word before.
+    ///
+    /// It takes the memory of the whole run.
+    pub fn of_quotient(
+        alloc: Global,
+        u: &[Letter],
+        v: &[Letter],
+        handles: u32,
+        limit: u32,
+    ) -> Result<Reducer, AllocError>
+        requires words { length u.now + length v.now ≤ MAX_LETTERS }
+        requires handles { handles ≤ MAX_BOUND }
+        requires limit { limit ≤ MAX_BOUND }
+        ensures { IfOk result (λ r. IsRunAfter (quotient u.now v.now) handles limit 0 r) }
+    {
+        let len = u.len() + v.len();
         let room = len.max(limit as usize) + 1;
-        let mut scan = Scan::make(alloc, word.letters(), room)?;
+        let mut scan = Scan::of_quotient(alloc, u, v, room)?;
         if len > limit as usize {
             return Ok(Reducer {
                 scan,

@@ -184,6 +184,21 @@ fn run_stands_after_each_turn_and_stays_at_its_end(rt: HostRuntime) -> Result<()
 }
 
 #[test]
+fn a_quotient_is_reduced_as_its_word_is(rt: HostRuntime) -> Result<(), Fail> {
+    let alloc = rt.alloc();
+    let left = word_of(&rt, alloc, &[1, 2])?;
+    let right = word_of(&rt, alloc, &[2, 1])?;
+    assert!(rt; left.letters().len() + right.letters().len() <= 100_000);
+    let mut run = Reducer::of_quotient(alloc, left.letters(), right.letters(), 9, 9)?;
+    let first: State = (Running, &[], &[-2, -1, 2, 1]);
+    assert_stands(&rt, &run, first, 0, 0);
+    run.turn(9);
+    let last: State = (Done(Sign::Positive(1)), &[(2, 4), (1, 2)], &[1, -2]);
+    assert_stands(&rt, &run, last, 0, 9);
+    Ok(())
+}
+
+#[test]
 fn turns_are_cut_anywhere(rt: HostRuntime) -> Result<(), Fail> {
     let numbers = [-1, 2, -3, -2, -1, 3, 1, -2, 1];
     let two_turns: State = (Running, &[(2, 4), (5, 7)], &[-1, -3, -2, 3, 3, -2, 1]);

@@ -8,7 +8,7 @@ ghost use Rattle.session_run.specs.ReplyText.{job_trace, verdict_at};
 ghost use Rattle.wb_base.specs.Streams.{HasCause, Puts};
 
 use crate::reply::JobLine;
-use braid_word::{Account, Sign, Word, quotient};
+use braid_word::{Account, Sign, Word};
 use handle_reduce::{Progress, Reducer};
 use std::alloc::{AllocError, Global};
 use std::marker::Model;
@@ -76,8 +76,7 @@ impl Job {
             }) }
     {
         let (left, right) = words;
-        let word = quotient(alloc, left.letters(), right.letters())?;
-        let reducer = Reducer::begin(alloc, word, handles, limit)?;
+        let reducer = Reducer::of_quotient(alloc, left.letters(), right.letters(), handles, limit)?;
         Ok(Job {
             name,
             left,

@@ -2,11 +2,12 @@
 --
 -- A run is over after as many turns as it may reduce handles, and its sign isn't mixed (`run-over`,
 -- `run-decided`), so it has an answer (`ended-total`).
-use Rattle.std.proofs.Common.{◌≡◌, ℕ, ◌+◌, ◌<◌, List, length, Option, Some, None, refl, ap, sym, ◌∙◌, zero-add, codes}
+use Rattle.std.proofs.Common.{◌≡◌, ℕ, ◌+◌, ◌<◌, List, length, Option, Some, None, refl, ap, sym, ◌∙◌, zero-add, codes, arith}
 use Rattle.std.specs.Option.{option_map}
 use Rattle.wb_base.specs.Status.{Answer, answer}
 use Rattle.wb_base.specs.declared.status.Status.TheVariants.{Done, Refused}
 use Rattle.braid_word.specs.Words.{Letter, quotient}
+use Rattle.braid_word.proofs.WordLemmas.{length-quotient}
 use Rattle.braid_word.specs.declared.sign.Sign.{Sign}
 use Rattle.braid_word.specs.declared.sign.Sign.TheVariants.{Empty, Positive, Negative, Mixed}
 use Rattle.handle_reduce.specs.Runs.{RunState, LimitedRun, IsRunAfter, run_after}
@@ -22,13 +23,12 @@ use Rattle.wb_compare.specs.Reductions.{ended, run_answer}
 
 -- the run of a reducer after all its turns, of the quotient of u and v
 pub run-all
-    : (w u v : List Letter) (handles limit : ℕ) (r : LimitedRun)
-    → w ≡ quotient u v
+    : (w : List Letter) (handles limit : ℕ) (r : LimitedRun)
     → IsRunAfter w handles limit (0 + handles) r
-    → r.run ≡ run_after (quotient u v) handles limit handles
-run-all w u v handles limit r word is =
+    → r.run ≡ run_after w handles limit handles
+run-all w handles limit r is =
     let now : r.run ≡ run_after w handles limit (0 + handles) = ap (λ (s : LimitedRun). s.run) is in
-    now ∙ rw (zero-add, word) refl
+    now ∙ rw zero-add refl
 
 -- what is answered by how the run stands
 pub run_answer-stands
@@ -70,13 +70,13 @@ run-decided w handles limit run sign is done none =
 
 -- a quotient that is too long meets the length at once
 pub run_answer-long
-    : (text : RunState → Verdict → List ℕ) (w u v : List Letter) (handles limit : ℕ)
-    → w ≡ quotient u v
-    → limit < length w
+    : (text : RunState → Verdict → List ℕ) (u v : List Letter) (handles limit : ℕ)
+    → limit < length u + length v
     → run_answer text handles limit u v ≡ Some (limit_met (codes "length ") limit)
 unfolding run_answer
-run_answer-long text w u v handles limit word long =
-    let met = run_after-long (quotient u v) handles limit handles (rw word at long) in rw met refl
+run_answer-long text u v handles limit long =
+    let size = length-quotient u v in
+    let met = run_after-long (quotient u v) handles limit handles (omega (arith, long, size)) in rw met refl
 
 -- a run that is over has an answer
 pub ended-total

@@ -6,7 +6,7 @@ ghost use Rattle.trace_format.specs.declared.verdict.Verdict.{Verdict as Decisio
 ghost use Rattle.wb_compare.specs.Reductions.{run_answer};
 ghost use Rattle.wb_compare.specs.Endings.{ended_answer};
 
-use braid_word::{Letter, quotient};
+use braid_word::Letter;
 use handle_reduce::{Progress, Reducer};
 use std::alloc::{AllocError, Global};
 use trace_format::{Verdict, verdict_of};
@@ -35,11 +35,10 @@ pub(crate) fn reduce(
     ensures { IfOk result (λ ended. (text : RunState → Decision → List ℕ)
         → run_answer text handles limit left.now right.now ≡ Some (ended_answer text handles limit ended)) }
 {
-    let word = quotient(alloc, left, right)?;
-    if word.letters().len() > limit as usize {
+    if left.len() + right.len() > limit as usize {
         return Ok(Ended::LengthMet);
     }
-    let mut reducer = Reducer::begin(alloc, word, handles, limit)?;
+    let mut reducer = Reducer::of_quotient(alloc, left, right, handles, limit)?;
     match reducer.turn(handles) {
         Progress::Done(sign) => match verdict_of(sign) {
             Some(verdict) => Ok(Ended::Decided { verdict, reducer }),
