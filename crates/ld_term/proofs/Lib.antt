@@ -1,4 +1,5 @@
 pub mod TermLemmas
+pub mod LevelLemmas
 pub mod ReadingLemmas
 pub mod PieceLemmas
 pub mod HeldLemmas

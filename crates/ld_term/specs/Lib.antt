@@ -3,6 +3,7 @@ pub mod Written
 pub mod Tokens
 pub mod Grammar
 pub mod Automaton
+pub mod Levels
 pub mod Held
 pub mod Reads
 pub mod Refusals

@@ -7,10 +7,10 @@ use Rattle.ld_term.specs.declared.reader.Reader.{Reader}
 
 -- The reader holds the heights of the state.
 abbrev pub Holds : Reader → State → Type 0
-Holds reader s = IsHeld reader.held reader.left reader.outer.items s
+Holds reader s = IsHeld reader.held reader.left reader.outer s
 
 -- Whichever state the old reader holds, the token leads to one that the new reader holds; or it may not
 -- stand there.
 abbrev pub Steps : Bool → Token → Bool → Reader → Reader → Type 0
 Steps strict token moved old new =
-    (s : State) → Holds old s → Moves strict token s moved new.held new.left new.outer.items
+    (s : State) → Holds old s → Moves strict token s moved new.held new.left new.outer

@@ -3,6 +3,7 @@
 
 mod definition;
 mod laws;
+mod levels;
 mod reader;
 mod shape;
 mod term_err;

@@ -6,6 +6,7 @@ ghost use Rattle.ld_term.specs.Automaton.{State, start, finish};
 ghost use Rattle.ld_term.specs.Reads.{Holds, Steps};
 ghost use Rattle.ld_term.specs.Held.{token_from, left_height};
 
+use crate::levels::Levels;
 use crate::token::Kind;
 use std::alloc::{AllocError, Global};
 
@@ -15,7 +16,7 @@ use std::alloc::{AllocError, Global};
 pub(crate) struct Reader {
     held: Option<u64>,
     left: Option<u64>,
-    outer: Vec<Option<u64>>,
+    outer: Levels,
 }
 
 impl Reader {
@@ -26,7 +27,7 @@ impl Reader {
         Reader {
             held: None,
             left: None,
-            outer: Vec::new(alloc),
+            outer: Levels::new(alloc),
         }
     }
 

@@ -13,9 +13,9 @@ use Rattle.std.proofs.lemmas.Fmt.{length-decimal-le_wide}
 use Rattle.std.proofs.lemmas.Str.Parse.{digit_from_value}
 use Rattle.std.proofs.lemmas.List.Folds.{list_all_at, list_all-append}
 use Rattle.std.proofs.lemmas.List.Sums.{prefix_len-le-length}
-use Rattle.wb_base.specs.Lines.{lines_of, line}
+use Rattle.wb_base.specs.Lines.{lines_of, line, HasNoLf}
 use Rattle.wb_base.specs.Names.{is_name_byte, is_name}
-use Rattle.wb_base.proofs.LineLemmas.{HasNoLf, lines_of-flat_map}
+use Rattle.wb_base.proofs.LineLemmas.{lines_of-flat_map}
 use Rattle.wb_base.proofs.NumberLemmas.{AllDigits-decimal}
 use Rattle.ld_term.specs.Terms.{Term, variable, multiply, height}
 use Rattle.ld_term.specs.Written.{Written, leaf, named, times}

@@ -6,6 +6,6 @@ use Rattle.ld_term.proofs.reader.Reader.open.Goals as goal
 pub returns : goal.returns
 returns c = λ strict s held.
     let old = c.args.self.now in
-    rw (c.in-None.is, c.in_ok-push.ensures.items)
-    (moves-open strict s old.left old.outer.items
-    (subst (λ h. IsHeld h old.left old.outer.items s) c.in-None.is held))
+    rw (c.in-None.is, c.in_ok-push.ensures)
+    (moves-open strict s old.left old.outer
+    (subst (λ h. IsHeld h old.left old.outer s) c.in-None.is held))
