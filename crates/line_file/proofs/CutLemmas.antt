@@ -6,8 +6,8 @@
 use Rattle.std.proofs.Common.{◌≡◌, ℕ, suc, zero, Bool, true, false, cond, eqb, List, [], ◌∷◌, ◌++◌, ap, refl, sym, ◌∙◌, arith}
 use Rattle.std.proofs.lemmas.Bool.{eqb-false}
 use Rattle.std.proofs.lemmas.List.{append-nil}
-use Rattle.wb_base.specs.Lines.{onto_line, cut}
-use Rattle.wb_base.proofs.LineLemmas.{HasNoLf, cut-cons}
+use Rattle.wb_base.specs.Lines.{onto_line, cut, HasNoLf}
+use Rattle.wb_base.proofs.LineLemmas.{cut-cons}
 use Rattle.line_file.specs.Pieces.{onto_front}
 
 -- ---- Bytes that follow ----

@@ -10,10 +10,11 @@
 --   IsClaimed f bytes claim        all lines of the file are kept, and it claims this behind them
 --   IsFirstRefusal f bytes k why   line k of the file is the first that is refused, for this cause
 --   HasNoRefusal f bytes           no line of the file is refused
+--   IsEarlyRefusal f bytes k why   the first refusal, which no bytes behind these can take back
 --
 -- It is what `checked_of` says: `checked_of-IsClaimed`, `checked_of-IsFirstRefusal` and their converses in
 -- `proofs/RefusalLaws.antt`.
-use Rattle.std.specs.Prelude.{◌≡◌, ℕ, ◌+◌, ◌-◌, ◌^◌, min, List, [], ◌∷◌, ◌++◌, length, Some, Ok, Err}
+use Rattle.std.specs.Prelude.{◌≡◌, ◌⊎◌, ℕ, ◌+◌, ◌-◌, ◌^◌, ◌<◌, min, List, [], ◌∷◌, ◌++◌, length, Some, Ok, Err}
 use Rattle.wb_base.specs.Lines.{cut}
 use Rattle.line_file.specs.Formats.{Format, kept_line, at_end}
 
@@ -48,3 +49,15 @@ pub record IsFirstRefusal {D W C : Type 0} (f : Format D W C) (bytes : List ℕ)
 -- No line of the file is refused, and it may end so.
 abbrev pub HasNoRefusal : {D W C : Type 0} → Format D W C → List ℕ → Type 0
 HasNoRefusal {D} {W} f bytes = (k : ℕ) (why : W) → IsFirstRefusal f bytes k why → ⊥
+
+-- Whatever follows, a refusal of a whole line stays; one of bytes that no LF ends yet does where they stand
+-- behind the last line, or are more than a line may have.
+abbrev pub IsSettled : {D W C : Type 0} → Format D W C → D → List (List ℕ) → List ℕ → Type 0
+IsSettled {C = C} f now [] rest = ((claim : C) × (f.passed now ≡ Some claim)) ⊎ (f.most < length rest)
+IsSettled f now (line ∷ ls) rest = Unit {0}
+
+-- The first refusal of the bytes, which stays whatever follows them.
+pub record IsEarlyRefusal {D W C : Type 0} (f : Format D W C) (bytes : List ℕ) (k : ℕ)
+    (why : W) : Type 0 where
+  pub first : IsFirstRefusal f bytes k why
+  pub settled : IsSettled f first.last first.others (cut bytes).1

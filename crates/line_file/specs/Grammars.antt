@@ -2,6 +2,7 @@
 --
 -- A line is kept exactly where it is the text of what can be said there. So a file that claims something is
 -- the lines of what is said, one after the other, from what is due first on to the end.
+-- No public clause cites this module: by it a format shows of a line what then holds of a file.
 -- Source: this project's own.
 --
 --   Grammar                   the text of what a line says, what can be said, and what it leads to
@@ -10,8 +11,7 @@
 --   IsSaid f g bytes claim    the bytes are the lines of what leads from the start to the end
 use Rattle.std.specs.Prelude.{◌≡◌, ℕ, ◌≤◌, List, [], ◌∷◌, length, map, Some, None, Ok}
 use Rattle.std.specs.List.{flat_map}
-use Rattle.wb_base.specs.Lines.{line}
-use Rattle.wb_base.proofs.LineLemmas.{HasNoLf}
+use Rattle.wb_base.specs.Lines.{line, HasNoLf}
 use Rattle.line_file.specs.Formats.{Format}
 
 -- S is what a line may say. `follows` has what is due, what is said, and what is due next.

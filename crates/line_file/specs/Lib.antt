@@ -3,5 +3,5 @@ pub mod FirstRefusal
 pub mod Pieces
 pub mod Grammars
 pub mod Keeping
-pub mod Held
+pub mod CheckerView
 pub mod Sources

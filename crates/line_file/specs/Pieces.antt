@@ -2,7 +2,7 @@
 --
 -- What a checker holds is a function of the bytes that came, and not of the pieces in which they did: what is
 -- due behind their lines, with the bytes behind the last LF, which may begin a line; or the refusal, as soon
--- as no bytes that follow can take it back.
+-- as it is early (`IsEarlyRefusal` in `FirstRefusal.antt`).
 -- Source: this project's own.
 --
 --   Held                  what a checker may hold: it is reading, it has refused, or memory ran out

@@ -2,9 +2,9 @@
 ghost use Rattle.std.specs.Prelude.{◌≡◌, ◌≤◌, ◌++◌, ◌∷◌, List, ℕ, [], Some, IfOk, OnOk, MatchOption};
 ghost use Rattle.wb_base.specs.Lines.{cut};
 ghost use Rattle.line_file.specs.Formats.{kept_line, checked_of};
-ghost use Rattle.line_file.specs.Pieces.{Held, is_reading, held_behind, held_of, held_from, onto_front, fed, finished, length_held, Comes, StandsFor};
+ghost use Rattle.line_file.specs.Pieces.{Held, is_reading, was_refused, held_behind, held_of, held_from, onto_front, fed, finished, length_held, Comes, StandsFor};
 ghost use Rattle.line_file.specs.Keeping.{Keeps, told, Ends};
-ghost use Rattle.line_file.specs.Held.{held_in};
+ghost use Rattle.line_file.specs.CheckerView.{held_in};
 
 use crate::format::{FileErr, LineFormat, Stop};
 use std::alloc::{AllocError, Global};
@@ -22,8 +22,7 @@ enum Kept<F: LineFormat> {
     Memory,
 }
 
-/// A check of a file whose bytes come in pieces. It holds what is due, and of the bytes those of one line at
-/// most.
+/// A check of a file whose bytes come in pieces. What it holds of them is the same however they are cut.
 #[derive(Drop)]
 pub struct Checker<F: LineFormat> {
     alloc: Global,
@@ -117,7 +116,9 @@ fn read_on<F: LineFormat>(alloc: Global, line: u64, due: F, rest: Vec<u8>, piece
 
 // What a checker holds after a piece.
 fn feed<F: LineFormat>(alloc: Global, kept: Kept<F>, piece: &[u8]) -> Kept<F>
-    ensures { Comes (held_in result) (fed F.format (held_in kept) piece.now) }
+    ensures held { Comes (held_in result) (fed F.format (held_in kept) piece.now) }
+    ensures refused { (line : ℕ) → (why : F.Why) → held_in kept ≡ was_refused line why
+        → held_in result ≡ held_in kept }
 {
     match kept {
         Kept::Reading { line, due, rest } => read_on(alloc, line, due, rest, piece),
@@ -176,7 +177,7 @@ fn end<F: LineFormat>(kept: Kept<F>) -> Result<F::Claim, FileErr<F::Why>>
 impl<F: LineFormat> Model for Checker<F> {
     ghost use Rattle.std.specs.Prelude.{◌≤◌};
     ghost use Rattle.line_file.specs.Pieces.{Held, length_held};
-    ghost use Rattle.line_file.specs.Held.{held_in};
+    ghost use Rattle.line_file.specs.CheckerView.{held_in};
 
     ghost Value = { Held F F.Why };
 
@@ -200,14 +201,17 @@ impl<F: LineFormat> Checker<F> {
         })
     }
 
-    /// Reads the next bytes. It answers the file's first refusal as soon as no bytes that follow can take it
-    /// back, and then again; after want of memory it always answers that.
+    /// Reads the next bytes. It answers the file's first refusal as soon as that is early: of a whole line,
+    /// of more bytes than a line may have, or of a byte behind the last line. A refusal stays, whatever
+    /// follows, and so does want of memory: each is answered again.
     pub fn feed(&mut self, piece: &[u8]) -> Result<(), FileErr<F::Why>>
         // However the bytes come, what is held is what is held of all of them.
         ensures stands { (bytes : List ℕ) → StandsFor F.format self.old bytes
             → Comes self.new (held_of F.format (bytes ++ piece.now)) }
         ensures held { Comes self.new (fed F.format self.old piece.now) }
         ensures told { result ≡ told self.new }
+        ensures refused { (line : ℕ) → (why : F.Why) → self.old ≡ Held.was_refused line why
+            → self.new ≡ self.old }
         ensures out { self.old ≡ Held.ran_out → self.new ≡ Held.ran_out }
     {
         let kept = mem::replace(&mut self.kept, Kept::Memory);

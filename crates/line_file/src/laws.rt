@@ -1,7 +1,7 @@
 // Laws of files of lines. Each is the contract of a function that does nothing.
 ghost use Rattle.std.specs.Prelude.{◌≡◌, ◌↔◌, ◌≤◌, ◌++◌, ℕ, List, Some, Ok, Err};
 ghost use Rattle.line_file.specs.Formats.{checked_of};
-ghost use Rattle.line_file.specs.FirstRefusal.{IsClaimed, IsFirstRefusal, HasNoRefusal};
+ghost use Rattle.line_file.specs.FirstRefusal.{IsClaimed, IsFirstRefusal, HasNoRefusal, IsEarlyRefusal};
 ghost use Rattle.line_file.specs.Pieces.{held_of, was_refused, fed, finished, length_held};
 
 use crate::format::LineFormat;
@@ -22,7 +22,8 @@ pub fn law_first_refusal<F: LineFormat>()
 {}
 
 /// What is held of some bytes doesn't depend on the pieces in which they come; it is no more than a line may
-/// have, its end is the check of the file, and what it refuses is refused whatever follows.
+/// have, and its end is the check of the file. It is a refusal exactly where the bytes have an early one, and
+/// that is the file's, whatever follows.
 ///
 /// The law is the contract. Formats of lines are this project's.
 pub fn law_pieces<F: LineFormat>()
@@ -31,6 +32,8 @@ pub fn law_pieces<F: LineFormat>()
     ensures ended { (bytes : List ℕ)
         → finished F.format (held_of F.format bytes) ≡ Some (checked_of F.format bytes) }
     ensures short { (bytes : List ℕ) → length_held (held_of F.format bytes) ≤ F.format.most }
+    ensures told { (bytes : List ℕ) → (line : ℕ) → (why : F.Why)
+        → (held_of F.format bytes ≡ was_refused line why) ↔ IsEarlyRefusal F.format bytes line why }
     ensures early { (bytes more : List ℕ) → (line : ℕ) → (why : F.Why)
         → held_of F.format bytes ≡ was_refused line why
         → checked_of F.format (bytes ++ more) ≡ Err (line, why) }

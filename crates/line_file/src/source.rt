@@ -73,12 +73,10 @@ fn finish<F: LineFormat>(checker: Checker<F>) -> Result<F::Claim, SourceErr<F::W
     }
 }
 
-/// Checks all bytes of a source, of which there may be at most `limit`, in the memory of one line and of what
-/// is due.
+/// Checks all bytes of a source, of which there may be at most `limit`.
 ///
-/// It takes at most 4,096 bytes at a time. A refusal is answered behind the last byte, so that a source with
-/// too many bytes is told by that, whatever its lines are: exactly `limit + 1` bytes were taken then. It
-/// makes at most `limit + 2` calls.
+/// A refusal is answered behind the last byte, so that a source with too many bytes is answered `TooLarge`,
+/// whatever its lines are: exactly `limit + 1` bytes were taken then. It makes at most `limit + 2` calls.
 pub fn check_source<F: LineFormat, S: Source>(
     alloc: Global,
     source: &mut S,

@@ -151,7 +151,7 @@ fn pieces_of_any_size_are_one_file(rt: HostRuntime) -> Result<(), Fail> {
 }
 
 #[test]
-fn a_refusal_comes_as_soon_as_nothing_can_take_it_back(rt: HostRuntime) -> Result<(), Fail> {
+fn an_early_refusal_comes_at_once(rt: HostRuntime) -> Result<(), Fail> {
     // Pieces, and how many of them are fed before the refusal is told.
     let cases: [(&[&[u8]], usize, Fault); 5] = [
         (&[b"one", b"\n", b"tally\n"], 1, Fault::Form),

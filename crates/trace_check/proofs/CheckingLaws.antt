@@ -1,8 +1,8 @@
 -- Laws of the check of a file.
 --
--- It claims something exactly where it is accepted: `checked_of-accepted` and `accepted-checked_of`. What
--- it claims is then what the trace claims (`counted-claim`).
-use Rattle.std.proofs.Common.{◌≡◌, ℕ, ◌+◌, ◌-◌, ◌^◌, ◌<◌, ◌≤◌, min, List, [], ◌∷◌, length, length-append, map, flat_map, Some, Result, Ok, Err, IfOk, refl, sym, ap, ◌∙◌, subst, arith}
+-- It claims something exactly where it is accepted (`checked_of-IsAccepted`). What it claims is then what the
+-- trace claims (`counted-claim`).
+use Rattle.std.proofs.Common.{◌≡◌, ◌↔◌, ℕ, ◌+◌, ◌-◌, ◌^◌, ◌<◌, ◌≤◌, min, List, [], ◌∷◌, length, length-append, map, flat_map, Some, Result, Ok, Err, IfOk, refl, sym, ap, ◌∙◌, subst, arith}
 use Rattle.std.proofs.lemmas.List.{length-map}
 use Rattle.wb_base.specs.Streams.{one_more}
 use Rattle.wb_base.specs.Lines.{line}
@@ -21,7 +21,7 @@ use Rattle.trace_format.specs.Verdicts.{verdict_of}
 use Rattle.trace_format.specs.TraceText.{Header, words, terms, Trace, trace_text}
 use Rattle.trace_format.specs.TraceLines.{line_text, IsShortTerm, IsHeader, IsTrace}
 use Rattle.trace_format.proofs.TraceLaws.{tail_lines, step_lines, left_line, right_line, trace_lines, trace_text-lines}
-use Rattle.trace_check.specs.Accepted.{left_word, right_word, quotient_of, IsSteps, IsAccepted, Claim, claim_of, IsValid}
+use Rattle.trace_check.specs.Accepted.{left_word, right_word, quotient_of, IsSteps, IsAccepted, Claim, claim_of, counted_claim, IsValid}
 use Rattle.line_file.specs.Keeping.{Gives}
 use Rattle.trace_check.specs.Checking.{trace_file, checked_of}
 use Rattle.line_file.specs.declared.format.FileErr.{FileErr}
@@ -34,11 +34,60 @@ use Rattle.trace_check.proofs.KeptLaws.{begun, trace_grammar}
 use Rattle.trace_check.proofs.FollowsLaws.{IsGrammarOf-trace}
 use Rattle.trace_check.proofs.LeadsLaws.{Leads, counted, Leads-Step, IsSteps-Leads}
 
--- ---- A whole file ----
+-- ---- The number of steps ----
 
--- What a trace claims, with its steps counted up to the greatest of 64 bits.
-abbrev pub counted_claim : Trace → Claim
-counted_claim t = record (claim_of t) { steps = counted 0 t.steps }
+-- steps are counted up to the greatest of 64 bits
+counted-min
+    : (n : ℕ) (steps : List StepLine)
+    → n ≤ 2 ^ 64 - 1
+    → counted n steps ≡ min (n + length steps) (2 ^ 64 - 1)
+counted-min n [] low = omega arith
+counted-min n (step ∷ steps) low =
+    let more = counted-min (one_more n) steps (omega arith) in omega (arith, more)
+
+-- a text has no fewer bytes than lines
+length-lines : (texts : List (List ℕ)) → length texts ≤ length (flat_map line texts)
+length-lines [] = omega arith
+length-lines (text ∷ texts) =
+    let rest = length-lines texts in
+    let first = length-append text (10 ∷ []) in
+    omega (arith, rest, first, length-append (line text) (flat_map line texts))
+
+-- a trace has no more steps than its text has bytes
+length-steps : (t : Trace) → length t.steps ≤ length (trace_text t)
+length-steps t =
+    let all = length-lines (map line_text (trace_lines t)) in
+    let text = ap length (trace_text-lines t) in
+    let tail = tail_lines t.verdict t.witness in
+    let texts = length-map (trace_lines t) line_text in
+    let steps = length-append (map said.step t.steps) tail in
+    let many = length-map t.steps said.step in
+    omega (arith, all, text, texts, steps, many)
+
+-- of a file of fewer bytes than 64 bits can count all steps are counted
+pub counted-claim
+    : (bytes : List ℕ) (t : Trace)
+    → bytes ≡ trace_text t
+    → length bytes < 2 ^ 64
+    → counted_claim t ≡ claim_of t
+counted-claim bytes t text short =
+    let steps = length-steps t in
+    let size = ap length text in
+    let all : min (length t.steps) (2 ^ 64 - 1) ≡ length t.steps = omega (arith, steps, size) in
+    ap (λ n. record (claim_of t) { steps = n }) all
+
+-- What a trace claims whose steps are counted one by one.
+abbrev stepwise_claim : Trace → Claim
+stepwise_claim t = record (claim_of t) { steps = counted 0 t.steps }
+
+-- it is what is counted at once
+stepwise-counted : (t : Trace) → stepwise_claim t ≡ counted_claim t
+stepwise-counted t =
+    let all : counted 0 t.steps ≡ min (length t.steps) (2 ^ 64 - 1)
+    = counted-min 0 t.steps (omega arith) ∙ omega arith in
+    ap (λ n. record (claim_of t) { steps = n }) all
+
+-- ---- A whole file ----
 
 -- The lines of a file that claims something are those of a trace that is accepted.
 record IsTraced (all : List Said) (claim : Claim) : Type 0 where
@@ -48,7 +97,7 @@ record IsTraced (all : List Said) (claim : Claim) : Type 0 where
   short : length (quotient_of trace.header) ≤ MAX_LETTERS
   steps : IsSteps (quotient_of trace.header) trace.steps trace.witness
   sign : verdict_of (sign_of trace.witness) ≡ Some trace.verdict
-  claims : claim ≡ counted_claim trace
+  claims : claim ≡ stepwise_claim trace
 
 -- the lines from the right word on
 Leads-Right
@@ -161,12 +210,12 @@ IsHeader-Leads (terms t u) all claim is short leads =
 IsAccepted-Leads
     : (bytes : List ℕ) (t : Trace)
     → IsAccepted bytes t
-    → Leads due.start (trace_lines t) (counted_claim t)
+    → Leads due.start (trace_lines t) (stepwise_claim t)
 IsAccepted-Leads bytes t is = (
   due.left,
   tt,
   refl,
-  IsHeader-Leads t.header (step_lines t.steps (tail_lines t.verdict t.witness)) (counted_claim t)
+  IsHeader-Leads t.header (step_lines t.steps (tail_lines t.verdict t.witness)) (stepwise_claim t)
       is.bounds.header is.short
       (IsSteps-Leads (begun (left_word t.header) (right_word t.header)) t.steps t.verdict t.witness
       is.bounds.steps is.bounds.witness is.steps (verdict_of-Shows t.verdict t.witness is.shown)),
@@ -188,7 +237,7 @@ checked_of-accepted bytes claim is =
       steps = traced.steps;
       shown = Shows-verdict_of _ _ traced.trace.witness refl traced.sign;
     } in
-    (traced.trace, accepted, traced.claims)
+    (traced.trace, accepted, traced.claims ∙ stepwise-counted traced.trace)
 
 -- a file that is accepted claims what its trace claims
 pub accepted-checked_of
@@ -196,54 +245,21 @@ pub accepted-checked_of
     → IsAccepted bytes t
     → checked_of bytes ≡ Ok (counted_claim t)
 accepted-checked_of bytes t is =
-    IsSaid-checked_of trace_file trace_grammar bytes (counted_claim t) IsGrammarOf-trace (record {
+    IsSaid-checked_of trace_file trace_grammar bytes (stepwise_claim t) IsGrammarOf-trace (record {
       all = trace_lines t;
       text = is.text ∙ trace_text-lines t;
       leads = IsAccepted-Leads bytes t is;
     })
+    ∙ ap (λ claim. Ok claim) (stepwise-counted t)
 
--- ---- The number of steps ----
-
--- steps are counted up to the greatest of 64 bits
-counted-min
-    : (n : ℕ) (steps : List StepLine)
-    → n ≤ 2 ^ 64 - 1
-    → counted n steps ≡ min (n + length steps) (2 ^ 64 - 1)
-counted-min n [] low = omega arith
-counted-min n (step ∷ steps) low =
-    let more = counted-min (one_more n) steps (omega arith) in omega (arith, more)
-
--- a text has no fewer bytes than lines
-length-lines : (texts : List (List ℕ)) → length texts ≤ length (flat_map line texts)
-length-lines [] = omega arith
-length-lines (text ∷ texts) =
-    let rest = length-lines texts in
-    let first = length-append text (10 ∷ []) in
-    omega (arith, rest, first, length-append (line text) (flat_map line texts))
-
--- a trace has no more steps than its text has bytes
-length-steps : (t : Trace) → length t.steps ≤ length (trace_text t)
-length-steps t =
-    let all = length-lines (map line_text (trace_lines t)) in
-    let text = ap length (trace_text-lines t) in
-    let tail = tail_lines t.verdict t.witness in
-    let texts = length-map (trace_lines t) line_text in
-    let steps = length-append (map said.step t.steps) tail in
-    let many = length-map t.steps said.step in
-    omega (arith, all, text, texts, steps, many)
-
--- of a file of fewer bytes than 64 bits can count all steps are counted
-pub counted-claim
-    : (bytes : List ℕ) (t : Trace)
-    → bytes ≡ trace_text t
-    → length bytes < 2 ^ 64
-    → counted_claim t ≡ claim_of t
-counted-claim bytes t text short =
-    let steps = length-steps t in
-    let size = ap length text in
-    let all : counted 0 t.steps ≡ length t.steps
-    = counted-min 0 t.steps (omega arith) ∙ omega (arith, steps, size) in
-    ap (λ n. record (claim_of t) { steps = n }) all
+-- a file claims something exactly where it is accepted
+pub checked_of-IsAccepted
+    : (bytes : List ℕ) (claim : Claim)
+    → (checked_of bytes ≡ Ok claim) ↔ ((t : Trace) × IsAccepted bytes t × (claim ≡ counted_claim t))
+checked_of-IsAccepted bytes claim = (checked_of-accepted bytes claim, back)
+  where
+    back : (t : Trace) × IsAccepted bytes t × (claim ≡ counted_claim t) → checked_of bytes ≡ Ok claim
+    back (t, is, claims) = accepted-checked_of bytes t is ∙ ap (λ c. Ok c) (sym claims)
 
 -- ---- What a checker answers ----
 

@@ -3,6 +3,7 @@ pub mod LineLengths
 pub mod StepLaws
 pub mod TakingLemmas
 pub mod ReductionLemmas
+pub mod KnownLemmas
 pub mod KeptLaws
 pub mod FollowsLaws
 pub mod LeadsLaws

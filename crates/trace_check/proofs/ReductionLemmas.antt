@@ -18,19 +18,13 @@ use Rattle.handle_find.proofs.CursorLemmas.{at-left, at-cursor, within-cursor}
 use Rattle.handle_find.proofs.ReduceLemmas.{reduct-closed, length-closed}
 use Rattle.trace_format.specs.declared.line.StepLine.TheVariants.{Handle}
 use Rattle.trace_check.specs.Checking.{are_inverse, stepped}
-use Rattle.trace_check.specs.Presents.{IsPresent}
+use Rattle.trace_check.specs.Presents.{IsPresent, Counted}
 use Rattle.trace_check.specs.declared.checked.Why.TheVariants.{Step, Long}
 use Rattle.trace_check.proofs.KeepLemmas.{stepped-Step, stepped-Handle}
 use Rattle.trace_check.proofs.TakingLemmas.{Took-none, Puts-none, IsPresent-step}
 use Rattle.trace_check.proofs.StepLaws.{are_inverse-true, are_inverse-from}
 
 -- ---- The letters inside a handle ----
-
--- The letters from place k on are higher than i, and so many of them are of the next index.
-pub record Counted (w : List Letter) (i k n : ℕ) : Type 0 where
-  pub higher : (m : ℕ) → k ≤ m → m < length w → i < (at w m).index
-  pub count : n ≡ count_by (λ x. x.index == i + 1) (drop k w)
-  pub few : n + k ≤ length w
 
 -- no letter
 pub Counted-none : (w : List Letter) (i : ℕ) → Counted w i (length w) 0

@@ -15,9 +15,10 @@
 --   IsAccepted bytes t    the bytes are the text of the trace t, and it is so
 --   IsValid t             the verdict of t holds, and its witness shows it
 --   Claim, claim_of t     what a trace claims, with the number of its steps
+--   counted_claim t       the same, where this number goes no further than 64 bits do
 --
 -- An accepted trace is valid: `IsValid-accepted` in `proofs/AcceptedLemmas.antt`.
-use Rattle.std.specs.Prelude.{◌≡◌, ◌↔◌, ℕ, ◌+◌, ◌-◌, ◌<◌, ◌≤◌, ◌⊎◌, Bool, List, [], ◌∷◌, ◌++◌, length}
+use Rattle.std.specs.Prelude.{◌≡◌, ◌↔◌, ℕ, ◌+◌, ◌-◌, ◌^◌, ◌<◌, ◌≤◌, min, ◌⊎◌, Bool, List, [], ◌∷◌, ◌++◌, length}
 use Rattle.std.specs.List.{AllByRecursion}
 use Rattle.braid_word.specs.Words.{Letter, letter, opposite, quotient, IsOn}
 use Rattle.braid_word.specs.Equivalence.{EquivalentOn, Equivalent}
@@ -149,3 +150,7 @@ claim_of t = record {
   witness = t.witness;
   steps = length t.steps;
 }
+
+-- The same with its steps counted up to the greatest number of 64 bits.
+abbrev pub counted_claim : Trace → Claim
+counted_claim t = record (claim_of t) { steps = min (length t.steps) (2 ^ 64 - 1) }

@@ -6,13 +6,12 @@
 -- Source: this project's own.
 --
 --   stepped w step       the word that a step leads to, or why it leads to none
--- kept_short due line  what is due after a line that isn't too long, or why it can't be kept trace_file
--- trace files as files of lines: with this, and the causes of what no such file may have
+--   kept_short due line  what is due after a line that isn't too long, or why it can't be kept
+--   trace_file           trace files as files of lines: with this, and the causes of what no file may have
 --   checked_of bytes     what a file claims, or the line and the cause of its first refusal
 --
 -- The first refusal in the words of lines is `IsFirstRefusal` in `FirstRefusal.antt`.
--- That it claims something exactly where it is accepted is `accepted-checked_of` and `checked_of-accepted`
--- in `proofs/CheckingLaws.antt`.
+-- That it claims something exactly where it is accepted is the law `law_checked`.
 use Rattle.std.specs.Prelude.{ℕ, ◌+◌, ◌-◌, ◌==◌, ◌&&◌, ◌||◌, nat_lt, Bool, true, false, not, if◌then◌else◌, List, ◌∷◌, ◌++◌, length, take, drop, codes, Option, Some, None, Result, Ok, Err}
 use Rattle.std.specs.Bool.{beq}
 use Rattle.std.specs.Cmp.Lexicographic.{pointwise}

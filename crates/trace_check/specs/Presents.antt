@@ -1,21 +1,47 @@
 -- The present word of a replay, in its room. No public clause cites this module.
 --
 --   IsPresent g      the buffer holds a word that isn't too long, in room for the longest and one letter more
+--   IsKnown w k      the letters of w in the stretch k have indices above what is known of them
+--   IsPassed k i from to low high
+--                    of the letters between two places those from low up to high are known to be too high for
+--                    a handle of index i to raise them
+--   Counted w i k n  the letters of w from place k on are higher than i, and n of them have the next index
 --   After result w   what a step answered that has left the word w
 --   Takes result g h the first letter of right was taken out of g, if there is one, and h is left
-use Rattle.std.specs.Prelude.{◌≡◌, ◌+◌, ◌≤◌, List, [], length, Result, Ok, Err}
+use Rattle.std.specs.Prelude.{◌≡◌, ℕ, ◌+◌, ◌<◌, ◌≤◌, ◌==◌, List, [], length, drop, Result, Ok, Err}
+use Rattle.std.specs.List.{count_by}
 use Rattle.braid_word.specs.Words.{Letter}
 use Rattle.braid_word.specs.declared.TheConstants.{MAX_LETTERS}
 use Rattle.gap_word.specs.Gap.{Gap, room, PopsRight}
+use Rattle.handle_find.specs.Handles.{at}
 use Rattle.handle_find.specs.Scans.{whole}
 use Rattle.trace_check.specs.declared.checked.Why.{Why}
+use Rattle.trace_check.specs.declared.known.Known.{Known}
 use Rattle.trace_check.specs.declared.checked.Why.TheVariants.{Step}
 
 pub record IsPresent (g : Gap Letter) : Type 0 where
   pub room : room g ≡ MAX_LETTERS + 1
   pub short : length (whole g) ≤ MAX_LETTERS
 
-abbrev pub After : Result Unit Why → List Letter → Result (List Letter) Why
+-- Each letter of the stretch, whose places count from 0, has an index above the one that is known.
+pub record IsKnown (w : List Letter) (k : Known) : Type 0 where
+  pub within : k.to ≤ length w
+  pub higher : (m : ℕ) → k.from ≤ m → m < k.to → k.above < (at w m).index
+
+-- A letter that is known has a place in the stretch, and the stretch lies above the next index to i.
+pub record IsPassed (k : Known) (i from to low high : ℕ) : Type 0 where
+  pub begins : from ≤ low
+  pub ordered : low ≤ high
+  pub ends : high ≤ to
+  pub known : (m : ℕ) → low ≤ m → m < high → (k.from ≤ m) × (m < k.to) × (i < k.above)
+
+-- The letters from a place on are higher than i, and so many of them have the next index.
+pub record Counted (w : List Letter) (i k n : ℕ) : Type 0 where
+  pub higher : (m : ℕ) → k ≤ m → m < length w → i < (at w m).index
+  pub count : n ≡ count_by (λ x. x.index == i + 1) (drop k w)
+  pub few : n + k ≤ length w
+
+abbrev pub After : {X : Type 0} → Result X Why → List Letter → Result (List Letter) Why
 After (Ok done) w = Ok w
 After (Err why) w = Err why
 

@@ -4,6 +4,7 @@ ghost use Rattle.line_file.specs.Pieces.{Held, held_of, fed, finished, length_he
 ghost use Rattle.line_file.specs.Keeping.{told, Ends};
 ghost use Rattle.trace_check.specs.Checking.{trace_file, checked_of};
 ghost use Rattle.trace_check.specs.declared.TheConstants.{MAX_LINE};
+ghost use Rattle.trace_check.specs.declared.checked.Why.{Why as Cause};
 
 use crate::MAX_LINE;
 use crate::checked::{CheckErr, Checked};
@@ -13,7 +14,7 @@ use std::alloc::{AllocError, Global};
 use std::marker::Model;
 
 /// A check of a trace file whose bytes come in pieces: what they claim, or the first refusal, is that of all
-/// of them, however they are cut. It holds the words, and of the bytes those of one line at most.
+/// of them, however they are cut. What it claims holds by `law_checked`.
 #[derive(Drop)]
 pub struct Checker {
     lines: LineChecker<Reading>,
@@ -39,14 +40,17 @@ impl Checker {
         })
     }
 
-    /// Reads the next bytes. It answers the file's first refusal as soon as no bytes that follow can take it
-    /// back, and then again; after want of memory it always answers that.
+    /// Reads the next bytes. It answers the file's first refusal as soon as that is early: of a whole line,
+    /// of more bytes than a line may have, or of a byte behind `end`. A refusal stays, whatever follows, and
+    /// so does want of memory: each is answered again.
     pub fn feed(&mut self, piece: &[u8]) -> Result<(), CheckErr>
         // However the bytes come, what is held is what is held of all of them.
         ensures stands { (bytes : List ℕ) → StandsFor trace_file self.old bytes
             → Comes self.new (held_of trace_file (bytes ++ piece.now)) }
         ensures held { Comes self.new (fed trace_file self.old piece.now) }
         ensures told { result ≡ told self.new }
+        ensures refused { (line : ℕ) → (why : Cause) → self.old ≡ Held.was_refused line why
+            → self.new ≡ self.old }
         ensures out { self.old ≡ Held.ran_out → self.new ≡ Held.ran_out }
     {
         self.lines.feed(piece)

@@ -22,7 +22,8 @@ use wb_base::Source;
 /// It is accepted where it is the text of a trace whose steps lead there, over words of at most 100,000
 /// letters, and whose witness has the sign of its verdict. Then the verdict holds, and no other does. Any
 /// other file is refused, at the first line that can't stand there; lines count from 1. It takes memory for
-/// the words and the terms, and for the word of one step at a time. The format is this project's.
+/// the words and the terms of its lines, and once for the word that its steps change. The format is this
+/// project's.
 pub fn check(alloc: Global, bytes: &[u8]) -> Result<Checked, CheckErr>
     // What it claims is what the trace claims whose text the file is, which is accepted, and so is valid.
     ensures accepted { IfOk result
@@ -45,12 +46,11 @@ pub fn check(alloc: Global, bytes: &[u8]) -> Result<Checked, CheckErr>
     check_file::<Reading>(alloc, bytes)
 }
 
-/// Checks all bytes of a source, of which there may be at most `limit`, as `check` does, in the memory of one
-/// line and of the words.
+/// Checks all bytes of a source, of which there may be at most `limit`, as `check` does; what it claims holds
+/// by `law_checked`.
 ///
-/// It takes at most 4,096 bytes at a time. A refusal is answered behind the last byte, so that a source with
-/// too many bytes is told by that, whatever its lines are: exactly `limit + 1` bytes were taken then. It
-/// makes at most `limit + 2` calls.
+/// A refusal is answered behind the last byte, so that a source with too many bytes is answered `TooLarge`,
+/// whatever its lines are: exactly `limit + 1` bytes were taken then. It makes at most `limit + 2` calls.
 pub fn check_source<S: Source>(
     alloc: Global,
     source: &mut S,

@@ -6,6 +6,8 @@ mod checker;
 mod due;
 mod file;
 mod keep;
+mod known;
+mod laws;
 mod present;
 mod reading;
 mod replay;
@@ -16,6 +18,7 @@ mod tests;
 pub use checked::{CheckErr, Checked, Why};
 pub use checker::Checker;
 pub use file::{check, check_source};
+pub use laws::law_checked;
 
 /// The most bytes of a line, without its LF.
 pub const MAX_LINE: usize = 524_288;

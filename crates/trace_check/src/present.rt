@@ -7,9 +7,11 @@ ghost use Rattle.trace_format.specs.TraceLines.{IsStepLine};
 ghost use Rattle.trace_check.specs.Checking.{stepped};
 
 use crate::checked::Why;
+use crate::known::Known;
 use crate::steps::step_to;
 use braid_word::{Letter, MAX_LETTERS};
 use gap_word::GapWord;
+use handle_find::put_word;
 use std::alloc::{AllocError, Global};
 use std::marker::Model;
 use trace_format::StepLine;
@@ -19,34 +21,24 @@ use trace_format::StepLine;
 #[derive(Debug, Drop)]
 pub struct Present {
     letters: GapWord<Letter>,
+    known: Known,
 }
 
 impl Model for Present {
     ghost use Rattle.std.specs.Prelude.{List};
     ghost use Rattle.braid_word.specs.Words.{Letter as Signed};
     ghost use Rattle.handle_find.specs.Scans.{whole};
-    ghost use Rattle.trace_check.specs.Presents.{IsPresent};
+    ghost use Rattle.trace_check.specs.Presents.{IsPresent, IsKnown};
 
     ghost Value = { List Signed };
 
     ghost view = { λ p. whole p.letters };
 
-    ghost invariant = { λ p. IsPresent p.letters };
-}
-
-// Puts the letters of a word in front of right, where they keep their order.
-fn put_word(letters: &mut GapWord<Letter>, word: &[Letter])
-    requires { length word.now ≤ letters.old.spare }
-    ensures { letters.new ≡ gap letters.old.left (word.now ++ letters.old.right)
-        (letters.old.spare - length word.now) }
-{
-    for k in (0..word.len()).rev() {
-        letters.push_right(word[k]);
-    }
+    ghost invariant = { λ p. IsPresent p.letters × IsKnown (whole p.letters) p.known };
 }
 
 // The letter at a place of the whole word, counted from 0.
-fn letter_at(letters: &GapWord<Letter>, k: usize) -> Option<Letter>
+fn letter_of(letters: &GapWord<Letter>, k: usize) -> Option<Letter>
     ensures { result ≡ slice_get (whole letters.now) k }
 {
     let left = letters.left_len();
@@ -65,7 +57,7 @@ fn is_word(letters: &GapWord<Letter>, word: &[Letter]) -> bool
         return false;
     }
     for k in 0..word.len() {
-        if letter_at(letters, k) != Some(word[k]) {
+        if letter_of(letters, k) != Some(word[k]) {
             return false;
         }
     }
@@ -80,7 +72,10 @@ impl Present {
     {
         let mut letters = GapWord::with_capacity(alloc, MAX_LETTERS + 1)?;
         put_word(&mut letters, word);
-        Ok(Present { letters })
+        Ok(Present {
+            letters,
+            known: Known::nothing(),
+        })
     }
 
     /// The word that a step leads to.
@@ -89,8 +84,8 @@ impl Present {
         ensures { result ≡ stepped self step }
     {
         let mut letters = self.letters;
-        step_to(&mut letters, step)?;
-        Ok(Present { letters })
+        let known = step_to(&mut letters, self.known, step)?;
+        Ok(Present { letters, known })
     }
 
     /// Whether it is this word.

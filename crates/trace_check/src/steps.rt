@@ -1,19 +1,21 @@
 // The steps of a replay, each by its kind. A step that is refused leaves the word as far as it was looked at.
-ghost use Rattle.std.specs.Prelude.{◌≡◌, ℕ, ◌+◌, ◌-◌, ◌*◌, ◌<◌, ◌≤◌, ◌==◌, ◌++◌, length, take, drop, not, true, Ok, IsTrue, OnOk, MatchOption, ◌↔◌};
+ghost use Rattle.std.specs.Prelude.{◌≡◌, ℕ, ◌+◌, ◌-◌, ◌*◌, ◌<◌, ◌≤◌, ◌==◌, ◌++◌, length, take, drop, not, true, Ok, IsTrue, IfOk, OnOk, MatchOption, ◌↔◌};
 ghost use Rattle.std.specs.List.{count_by};
 ghost use Rattle.braid_word.specs.declared.TheConstants.{MAX_LETTERS};
 ghost use Rattle.gap_word.specs.Gap.{gap};
+ghost use Rattle.gap_word.specs.declared.TheConstants.{MAX_ROOM};
 ghost use Rattle.handle_find.specs.Handles.{at};
 ghost use Rattle.handle_find.specs.Scans.{whole, IsHandleAtCursor, reduct_at_cursor};
 ghost use Rattle.trace_format.specs.TraceLines.{IsPlace, IsStepLine};
 ghost use Rattle.trace_format.specs.declared.line.StepLine.TheVariants.{Handle, Commute, Swap, Delete, Insert};
 ghost use Rattle.trace_check.specs.Checking.{are_far, are_near, are_braided, are_inverse, stepped};
-ghost use Rattle.trace_check.specs.Presents.{IsPresent, After, Takes};
+ghost use Rattle.trace_check.specs.Presents.{IsPresent, IsKnown, Counted, After, Takes};
 
 use crate::checked::Why;
+use crate::known::Known;
 use braid_word::{Letter, MAX_LETTERS};
 use gap_word::GapWord;
-use handle_find::take_back;
+use handle_find::{letter_at, take_back};
 use trace_format::StepLine;
 
 // Moves the cursor before a place, counted from 1, or behind the last letter.
@@ -26,30 +28,24 @@ fn go_to(word: &mut GapWord<Letter>, place: u32)
     word.move_to((place as usize - 1).min(len));
 }
 
-// The letter of left at a place, counted from 0.
-fn letter_at(word: &GapWord<Letter>, k: usize) -> Letter
-    requires { k < length word.now.left }
-    ensures { result ≡ at word.now.left k }
-{
-    match word.left_at(k) {
-        Some(letter) => letter,
-        None => unreachable!(),
-    }
-}
-
-// How many letters between a place and the cursor have the next index to that of `first`, where all are
-// higher.
-fn count_raised(word: &GapWord<Letter>, start: usize, first: Letter) -> Option<usize>
-    requires { start < length word.now.left }
+// How many letters from a place on have the next index to this one, where all are higher: by how many there
+// are from a later place on.
+fn count_on(
+    word: &GapWord<Letter>,
+    from: usize,
+    to: usize,
+    index: u16,
+    behind: usize,
+) -> Option<usize>
+    requires order { from ≤ to }
+    requires short { length word.now.left ≤ MAX_ROOM }
+    requires counted { Counted word.now.left index to behind }
     ensures { MatchOption result
-        (((k : ℕ) → start < k → k < length word.now.left → first.index < (at word.now.left k).index) → ⊥)
-        (λ n. ((k : ℕ) → start < k → k < length word.now.left → first.index < (at word.now.left k).index)
-        × (n ≡ count_by (λ x. x.index == first.index + 1) (drop (start + 1) word.now.left))) }
+        (((k : ℕ) → from ≤ k → k < to → index < (at word.now.left k).index) → ⊥)
+        (λ n. Counted word.now.left index from n) }
 {
-    let index = first.index();
-    let mut raised = 0;
-    let end = word.left_len();
-    for k in (start + 1..end).rev() {
+    let mut raised = behind;
+    for k in (from..to).rev() {
         let found = letter_at(word, k).index();
         if found <= index {
             return None;
@@ -61,9 +57,27 @@ fn count_raised(word: &GapWord<Letter>, start: usize, first: Letter) -> Option<u
     Some(raised)
 }
 
+// How many letters between a place and the cursor have the next index to that of `first`, where all are
+// higher. What is known isn't read.
+fn count_raised(word: &GapWord<Letter>, known: Known, start: usize, first: Letter) -> Option<usize>
+    requires start { start < length word.now.left }
+    requires known { IsKnown (whole word.now) known }
+    ensures { MatchOption result
+        (((k : ℕ) → start < k → k < length word.now.left → first.index < (at word.now.left k).index) → ⊥)
+        (λ n. ((k : ℕ) → start < k → k < length word.now.left → first.index < (at word.now.left k).index)
+        × (n ≡ count_by (λ x. x.index == first.index + 1) (drop (start + 1) word.now.left))) }
+{
+    let index = first.index();
+    let end = word.left_len();
+    let (low, high) = known.passed(start + 1, end, index);
+    let behind = count_on(word, high, end, index, 0)?;
+    count_on(word, start + 1, low, index, behind)
+}
+
 // How many letters are raised in the handle that begins at a place and ends with the first letter of right,
 // if there is one.
-fn raised_in(word: &GapWord<Letter>, start: usize) -> Option<usize>
+fn raised_in(word: &GapWord<Letter>, known: Known, start: usize) -> Option<usize>
+    requires { IsKnown (whole word.now) known }
     ensures { MatchOption result (IsHandleAtCursor word.now start → ⊥)
         (λ n. IsHandleAtCursor word.now start
         × (n ≡ count_by (λ x. x.index == (at word.now.left start).index + 1)
@@ -77,11 +91,11 @@ fn raised_in(word: &GapWord<Letter>, start: usize) -> Option<usize>
     if !are_inverse(first, last) {
         return None;
     }
-    count_raised(word, start, first)
+    count_raised(word, known, start, first)
 }
 
-// Reduces the handle that ends at the cursor.
-fn close(word: &mut GapWord<Letter>, start: usize, raised: usize)
+// Reduces the handle that ends at the cursor. Where no letter inside is raised, all of them are then known.
+fn close(word: &mut GapWord<Letter>, start: usize, raised: usize) -> Known
     requires handle { IsHandleAtCursor word.old start }
     requires raised { raised ≡ count_by (λ x. x.index == (at word.old.left start).index + 1)
         (drop (start + 1) word.old.left) }
@@ -89,6 +103,7 @@ fn close(word: &mut GapWord<Letter>, start: usize, raised: usize)
     requires short { length (reduct_at_cursor word.old start) ≤ MAX_LETTERS }
     ensures reduct { whole word.new ≡ reduct_at_cursor word.old start }
     ensures present { IsPresent word.new }
+    ensures known { IsKnown (whole word.new) result }
 {
     let first = letter_at(word, start);
     let Some(_last) = word.pop_right() else {
@@ -96,32 +111,38 @@ fn close(word: &mut GapWord<Letter>, start: usize, raised: usize)
     };
     if raised == 0 {
         word.remove_left(start);
-    } else {
-        take_back(word, start + 1, first);
-        let Some(_first) = word.pop_left() else {
-            unreachable!();
+        return Known {
+            from: start,
+            to: word.left_len(),
+            above: first.index + 1,
         };
     }
+    take_back(word, start + 1, first);
+    let Some(_first) = word.pop_left() else {
+        unreachable!();
+    };
+    Known::nothing()
 }
 
 // Reduces the handle at two places, counted from 1.
-fn reduce(word: &mut GapWord<Letter>, start: u32, end: u32) -> Result<(), Why>
+fn reduce(word: &mut GapWord<Letter>, known: Known, start: u32, end: u32) -> Result<Known, Why>
     requires start { IsPlace start }
     requires end { IsPlace end }
     requires present { IsPresent word.old }
+    requires known { IsKnown (whole word.old) known }
     ensures word { After result (whole word.new) ≡ stepped (whole word.old) (Handle start end) }
     ensures present { OnOk result (IsPresent word.new) }
+    ensures known { IfOk result (IsKnown (whole word.new)) }
 {
     let start = start as usize - 1;
     go_to(word, end);
-    let Some(raised) = raised_in(word, start) else {
+    let Some(raised) = raised_in(word, known, start) else {
         return Err(Why::Step);
     };
     if word.left_len() + word.right_len() - 2 + 2 * raised > MAX_LETTERS {
         return Err(Why::Long);
     }
-    close(word, start, raised);
-    Ok(())
+    Ok(close(word, start, raised))
 }
 
 // Whether the indices of two letters are 2 or more apart.
@@ -163,11 +184,12 @@ fn take_letter(word: &mut GapWord<Letter>) -> Result<Letter, Why>
 }
 
 // Has two letters that commute, the first at this place, change places.
-fn commute(word: &mut GapWord<Letter>, place: u32) -> Result<(), Why>
+fn commute(word: &mut GapWord<Letter>, place: u32) -> Result<Known, Why>
     requires place { IsPlace place }
     requires present { IsPresent word.old }
     ensures word { After result (whole word.new) ≡ stepped (whole word.old) (Commute place) }
     ensures present { OnOk result (IsPresent word.new) }
+    ensures known { IfOk result (IsKnown (whole word.new)) }
 {
     go_to(word, place);
     let x = take_letter(word)?;
@@ -177,15 +199,16 @@ fn commute(word: &mut GapWord<Letter>, place: u32) -> Result<(), Why>
     }
     word.push_right(x);
     word.push_right(y);
-    Ok(())
+    Ok(Known::nothing())
 }
 
 // Turns a side of a braid relation, from this place on, into the other side.
-fn swap(word: &mut GapWord<Letter>, place: u32) -> Result<(), Why>
+fn swap(word: &mut GapWord<Letter>, place: u32) -> Result<Known, Why>
     requires place { IsPlace place }
     requires present { IsPresent word.old }
     ensures word { After result (whole word.new) ≡ stepped (whole word.old) (Swap place) }
     ensures present { OnOk result (IsPresent word.new) }
+    ensures known { IfOk result (IsKnown (whole word.new)) }
 {
     go_to(word, place);
     let x = take_letter(word)?;
@@ -197,15 +220,16 @@ fn swap(word: &mut GapWord<Letter>, place: u32) -> Result<(), Why>
     word.push_right(y);
     word.push_right(x);
     word.push_right(y);
-    Ok(())
+    Ok(Known::nothing())
 }
 
 // Takes two letters out that are inverse to each other, the first at this place.
-fn delete(word: &mut GapWord<Letter>, place: u32) -> Result<(), Why>
+fn delete(word: &mut GapWord<Letter>, place: u32) -> Result<Known, Why>
     requires place { IsPlace place }
     requires present { IsPresent word.old }
     ensures word { After result (whole word.new) ≡ stepped (whole word.old) (Delete place) }
     ensures present { OnOk result (IsPresent word.new) }
+    ensures known { IfOk result (IsKnown (whole word.new)) }
 {
     go_to(word, place);
     let x = take_letter(word)?;
@@ -213,15 +237,16 @@ fn delete(word: &mut GapWord<Letter>, place: u32) -> Result<(), Why>
     if !are_inverse(x, y) {
         return Err(Why::Step);
     }
-    Ok(())
+    Ok(Known::nothing())
 }
 
 // Puts a letter and its inverse in, the first at this place.
-fn insert(word: &mut GapWord<Letter>, place: u32, letter: Letter) -> Result<(), Why>
+fn insert(word: &mut GapWord<Letter>, place: u32, letter: Letter) -> Result<Known, Why>
     requires place { IsPlace place }
     requires present { IsPresent word.old }
     ensures word { After result (whole word.new) ≡ stepped (whole word.old) (Insert place letter) }
     ensures present { OnOk result (IsPresent word.new) }
+    ensures known { IfOk result (IsKnown (whole word.new)) }
 {
     let len = word.left_len() + word.right_len();
     if place as usize - 1 > len {
@@ -233,18 +258,20 @@ fn insert(word: &mut GapWord<Letter>, place: u32, letter: Letter) -> Result<(), 
     go_to(word, place);
     word.push_right(letter.opposite());
     word.push_right(letter);
-    Ok(())
+    Ok(Known::nothing())
 }
 
-/// Makes a step.
-pub fn step_to(word: &mut GapWord<Letter>, step: StepLine) -> Result<(), Why>
+/// Makes a step, and answers what is then known. Only the next reduction has a use for it.
+pub fn step_to(word: &mut GapWord<Letter>, known: Known, step: StepLine) -> Result<Known, Why>
     requires step { IsStepLine step }
     requires present { IsPresent word.old }
+    requires known { IsKnown (whole word.old) known }
     ensures word { After result (whole word.new) ≡ stepped (whole word.old) step }
     ensures present { OnOk result (IsPresent word.new) }
+    ensures known { IfOk result (IsKnown (whole word.new)) }
 {
     match step {
-        StepLine::Handle(start, end) => reduce(word, start, end),
+        StepLine::Handle(start, end) => reduce(word, known, start, end),
         StepLine::Commute(place) => commute(word, place),
         StepLine::Swap(place) => swap(word, place),
         StepLine::Delete(place) => delete(word, place),

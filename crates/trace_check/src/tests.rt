@@ -39,6 +39,22 @@ fn answer_in_pieces(alloc: Global, file: &[u8], size: usize) -> Result<String, F
     text_of(alloc, checker.finish())
 }
 
+// Asserts what a file is, whole and in pieces of 1, 7 and 4,096 bytes.
+fn assert_is(rt: &impl Abort, alloc: Global, file: &[u8], want: &str) -> Result<(), Fail> {
+    let got = answer(alloc, file)?;
+    assert_eq!(rt; got.as_str(), want, "of {} bytes", file.len());
+    for size in [1, 7, 4096] {
+        let got = answer_in_pieces(alloc, file, size)?;
+        assert_eq!(rt;
+            got.as_str(),
+            want,
+            "of {} bytes in pieces of {size}",
+            file.len()
+        );
+    }
+    Ok(())
+}
+
 #[test]
 fn accepts_a_trace_and_nothing_else(rt: HostRuntime) -> Result<(), Fail> {
     let alloc = rt.alloc();
@@ -114,12 +130,7 @@ fn accepts_a_trace_and_nothing_else(rt: HostRuntime) -> Result<(), Fail> {
             "refused 6 Form",
         ),
     ] {
-        let got = answer(alloc, file.as_bytes())?;
-        assert_eq!(rt; got.as_str(), want, "of {file:?}");
-        for size in [1, 7, 4096] {
-            let got = answer_in_pieces(alloc, file.as_bytes(), size)?;
-            assert_eq!(rt; got.as_str(), want, "of {file:?} in pieces of {size}");
-        }
+        assert_is(&rt, alloc, file.as_bytes(), want)?;
     }
     Ok(())
 }
@@ -150,12 +161,7 @@ fn accepts_a_trace_of_two_terms_and_no_mixed_one(rt: HostRuntime) -> Result<(), 
             "refused 3 Form",
         ),
     ] {
-        let got = answer(alloc, file.as_bytes())?;
-        assert_eq!(rt; got.as_str(), want, "of {file:?}");
-        for size in [1, 7, 4096] {
-            let got = answer_in_pieces(alloc, file.as_bytes(), size)?;
-            assert_eq!(rt; got.as_str(), want, "of {file:?} in pieces of {size}");
-        }
+        assert_is(&rt, alloc, file.as_bytes(), want)?;
     }
     Ok(())
 }
@@ -208,8 +214,7 @@ fn replays_the_steps_of_any_maker(rt: HostRuntime) -> Result<(), Fail> {
         ),
     ] {
         let file = format!(in alloc; "braid-trace 1\n{words}{steps}{end}")?;
-        let got = answer(alloc, file.as_bytes())?;
-        assert_eq!(rt; got.as_str(), want, "of {file:?}");
+        assert_is(&rt, alloc, file.as_bytes(), want)?;
     }
     Ok(())
 }
@@ -243,8 +248,7 @@ fn refuses_a_step_that_does_not_apply(rt: HostRuntime) -> Result<(), Fail> {
         ("left\nright 1\n", "s 4294967295", "refused 4 Step"),
     ] {
         let file = format!(in alloc; "braid-trace 1\n{words}{step}\n")?;
-        let got = answer(alloc, file.as_bytes())?;
-        assert_eq!(rt; got.as_str(), want, "of {file:?}");
+        assert_is(&rt, alloc, file.as_bytes(), want)?;
     }
     Ok(())
 }
@@ -256,11 +260,7 @@ fn refuses_each_front_of_a_trace_as_truncated(rt: HostRuntime) -> Result<(), Fai
     for k in 0..bytes.len() {
         let line = 1 + bytes[..k].iter().filter(|byte| **byte == b'\n').count();
         let want = format!(in alloc; "refused {line} Truncated")?;
-        assert_eq!(rt;
-            answer(alloc, &bytes[..k])?.as_str(),
-            want.as_str(),
-            "of {k} bytes"
-        );
+        assert_is(&rt, alloc, &bytes[..k], want.as_str())?;
     }
     Ok(())
 }
@@ -296,7 +296,7 @@ fn assert_refused_behind(
 }
 
 #[test]
-fn a_refusal_comes_as_soon_as_nothing_can_take_it_back(rt: HostRuntime) -> Result<(), Fail> {
+fn an_early_refusal_comes_at_once_and_stays(rt: HostRuntime) -> Result<(), Fail> {
     let alloc = rt.alloc();
     let mut long = Vec::from_slice(alloc, b"braid-trace 1\n")?;
     for _ in 0..MAX_LINE {
@@ -334,7 +334,7 @@ fn refuses_what_is_too_long(rt: HostRuntime) -> Result<(), Fail> {
     inserted.extend_from_slice(b"d 1\ni 1 2\ni 1 2\n")?;
     assert_eq!(rt; answer(alloc, &inserted)?.as_str(), "refused 6 Long");
     let quotient = two_words(alloc, MAX_LETTERS)?;
-    assert_eq!(rt; answer(alloc, &quotient)?.as_str(), "refused 3 Long");
+    assert_is(&rt, alloc, &quotient, "refused 3 Long")?;
     let mut form = two_words(alloc, 1)?;
     form.extend_from_slice(b"left")?;
     end_line(&mut form, MAX_LETTERS + 1)?;

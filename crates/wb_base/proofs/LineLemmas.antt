@@ -5,7 +5,7 @@
 use Rattle.std.proofs.Common.{◌≡◌, ◌≢◌, ℕ, suc, zero, ◌+◌, ◌<◌, ◌≤◌, Bool, true, false, cond, nat_eq, List, [], ◌∷◌, ◌++◌, length, get_or, take, drop, ap, refl, ◌∙◌, arith}
 use Rattle.std.specs.List.{AllByRecursion, flat_map, onto_first}
 use Rattle.std.proofs.lemmas.Bool.{eq-eqb, ne_eqb}
-use Rattle.wb_base.specs.Lines.{lines_of, onto_line, cut, line}
+use Rattle.wb_base.specs.Lines.{lines_of, onto_line, cut, line, HasNoLf}
 
 -- a byte that is no LF goes in front of the first line
 pub lines_of-cons : (b : ℕ) (bytes : List ℕ) → b ≢ 10 → lines_of (b ∷ bytes) ≡ onto_first b (lines_of bytes)
@@ -48,10 +48,6 @@ pub cut-cons : (b : ℕ) (bytes : List ℕ) → b ≢ 10 → cut (b ∷ bytes) �
 cut-cons b bytes other = rw (ne_eqb b 10 other) refl
 
 -- ---- Texts as lines ----
-
--- No byte of a text is an LF.
-abbrev pub HasNoLf : List ℕ → Type 0
-HasNoLf text = (k : ℕ) → k < length text → get_or text k 0 ≢ 10
 
 -- a text without LF that stands in front as a line is the first line
 lines_of-line

@@ -9,7 +9,8 @@
 --   cut bytes           the lines that an LF ends, and what stands behind the last LF
 --   whole_lines bytes   the first of these two alone
 --   line text           a text, as a line
-use Rattle.std.specs.Prelude.{ℕ, ◌==◌, if◌then◌else◌, List, [], ◌∷◌, ◌++◌}
+--   HasNoLf text        no byte of it is an LF
+use Rattle.std.specs.Prelude.{◌≢◌, ◌<◌, ℕ, ◌==◌, if◌then◌else◌, List, [], ◌∷◌, ◌++◌, length, get_or}
 use Rattle.std.specs.List.{onto_first}
 
 -- The lines, without their LF: of `a LF LF b` they are `a`, an empty one and `b`.
@@ -35,3 +36,7 @@ whole_lines bytes = (cut bytes).0
 -- A text, as a line with its LF.
 abbrev pub line : List ℕ → List ℕ
 line text = text ++ 10 ∷ []
+
+-- No byte of a text is an LF.
+abbrev pub HasNoLf : List ℕ → Type 0
+HasNoLf text = (k : ℕ) → k < length text → get_or text k 0 ≢ 10

@@ -1,8 +1,7 @@
 use Rattle.std.proofs.Common.{◌<◌, suc, [], ◌∷◌, ◌++◌, take, drop, ap, ◌∙◌, ◌≡◌, subst, arith, add-one}
 use Rattle.std.proofs.Math.Seq.{split_at}
 use Rattle.std.proofs.lemmas.List.{append-nil, get_or-take, length-take, take_rest}
-use Rattle.wb_base.specs.Lines.{cut}
-use Rattle.wb_base.proofs.LineLemmas.{HasNoLf}
+use Rattle.wb_base.specs.Lines.{cut, HasNoLf}
 use Rattle.line_file.proofs.CutLemmas.{cut-onto_front, cut-line}
 use Rattle.line_file.proofs.checker.first_line.Goals as goal
 

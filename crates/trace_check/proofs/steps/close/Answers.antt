@@ -1,5 +1,7 @@
-use Rattle.std.proofs.Common.{rules}
+use Rattle.std.proofs.Common.{rules, refl, ap, arith}
+use Rattle.braid_word.specs.Words.{Letter}
 use Rattle.trace_check.proofs.ReductionLemmas.{reduct-removed, reduct-taken_back, room-taken_back, IsPresent-removed}
+use Rattle.trace_check.proofs.KnownLemmas.{IsKnown-removed}
 use Rattle.trace_check.proofs.steps.close.Goals as goal
 
 pub take_back-requires-clause-room : goal.take_back-requires-clause-room
@@ -18,7 +20,13 @@ returns-then-raised-eq0-clause-present c =
     IsPresent-removed _ _ _ _ _ c.requires.present c.in-Some.ensures.item (search rules)
     c.remove_left.ensures
 
-pub returns-in-Some-pop_left-clause-reduct : goal.returns-in-Some-pop_left-clause-reduct
-returns-in-Some-pop_left-clause-reduct c =
+pub returns-clause-reduct : goal.returns-clause-reduct
+returns-clause-reduct c =
     reduct-taken_back _ _ _ _ _ _ _ _ c.requires.handle c.letter_at-first.ensures c.in-Some.ensures.item
     c.take_back.ensures.left c.take_back.ensures.right c.in-Some-pop_left.ensures
+
+pub returns-then-raised-eq0-clause-known : goal.returns-then-raised-eq0-clause-known
+returns-then-raised-eq0-clause-known c =
+    IsKnown-removed _ _ _ _ _ _ _ _ c.requires.handle c.letter_at-first.ensures c.in-Some.ensures.item
+    c.requires.raised c.if-raised-eq0.true c.remove_left.ensures c.left_len.ensures.value _ refl refl
+    (omega (arith, ap (λ (x : Letter). x.index) c.first.view_is))

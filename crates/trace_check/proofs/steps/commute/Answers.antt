@@ -4,14 +4,14 @@ use Rattle.trace_check.proofs.steps.commute.Goals as goal
 
 -- the letters are taken out
 took
-    : (c : goal.After-push_right-2)
+    : (c : goal.After-nothing)
     → Took c.args.word.now (c.args.place - 1) (c.in_ok-x.x ∷ c.in_ok-y.y ∷ []) c.take_letter-2.new.word
 took c =
     Took-two _ _ _ _ _ _ _ c.go_to.ensures c.in_ok-x.ensures c.in_ok-y.ensures
 
 -- and others are put in
 puts
-    : (c : goal.After-push_right-2)
+    : (c : goal.After-nothing)
     → Puts c.take_letter-2.new.word (c.in_ok-y.y ∷ c.in_ok-x.x ∷ []) c.push_right-2.new.self
 puts c =
     let room = (took c).spare in

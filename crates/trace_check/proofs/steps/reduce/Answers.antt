@@ -1,6 +1,11 @@
 use Rattle.std.proofs.Common.{ap₂, ◌+◌, arith}
 use Rattle.trace_check.proofs.ReductionLemmas.{stepped-none, length-moved_reduct, stepped-too_long, stepped-reduct}
+use Rattle.trace_check.proofs.KnownLemmas.{IsKnown-moved}
 use Rattle.trace_check.proofs.steps.reduce.Goals as goal
+
+pub raised_in-requires : goal.raised_in-requires
+raised_in-requires c =
+    IsKnown-moved c.args.word.now c.go_to.new.word c.args.known _ c.go_to.ensures c.requires.known
 
 pub returns-in_default-clause-word : goal.returns-in_default-clause-word
 returns-in_default-clause-word c =

@@ -4,7 +4,7 @@ use Rattle.trace_check.proofs.steps.swap.Goals as goal
 
 -- the letters are taken out
 took
-    : (c : goal.After-push_right-3)
+    : (c : goal.After-nothing)
     → Took c.args.word.now (c.args.place - 1) (c.in_ok-x.x ∷ c.in_ok-y.y ∷ c.in_ok-z.z ∷ [])
     c.take_letter-3.new.word
 took c =
@@ -12,7 +12,7 @@ took c =
 
 -- and others are put in
 puts
-    : (c : goal.After-push_right-3)
+    : (c : goal.After-nothing)
     → Puts c.take_letter-3.new.word (c.in_ok-y.y ∷ c.in_ok-x.x ∷ c.in_ok-y.y ∷ []) c.push_right-3.new.self
 puts c =
     let room = (took c).spare in
