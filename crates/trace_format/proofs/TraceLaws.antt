@@ -6,8 +6,8 @@
 use Rattle.std.proofs.Common.{◌≡◌, ℕ, List, [], ◌∷◌, ◌++◌, append_assoc, map, flat_map, codes, refl, ap, ap₂, sym, ◌∙◌}
 use Rattle.std.specs.List.{AllByRecursion}
 use Rattle.std.proofs.lemmas.List.{append-nil}
-use Rattle.wb_base.specs.Lines.{lines_of, line}
-use Rattle.wb_base.proofs.LineLemmas.{HasNoLf, lines_of-flat_map}
+use Rattle.wb_base.specs.Lines.{lines_of, line, HasNoLf}
+use Rattle.wb_base.proofs.LineLemmas.{lines_of-flat_map}
 use Rattle.braid_word.specs.Words.{Letter}
 use Rattle.wb_base.proofs.PartLemmas.{Ok-injective}
 use Rattle.ld_term.specs.Terms.{Term}

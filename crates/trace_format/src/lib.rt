@@ -11,5 +11,6 @@ mod verdict;
 
 pub use laws::law_trace_text;
 pub use line::{Kind, Line, LineErr, StepLine, kind_of, read_line};
+pub use text::put_word_line;
 pub use trace::{put_term_trace, put_trace};
 pub use verdict::{Verdict, verdict_of};

@@ -21,12 +21,9 @@ fn put_word_field<K: Sink>(sink: &mut K, word: &[Letter]) -> Result<(), Failed>
     }
 }
 
-// Gives a keyword and a word as a line.
-pub(crate) fn put_word_line<K: Sink>(
-    sink: &mut K,
-    keyword: &[u8],
-    word: &[Letter],
-) -> Result<(), Failed>
+/// Gives a line of a keyword and a word: the word stands behind a space, in the strict spelling, and an empty
+/// word not at all.
+pub fn put_word_line<K: Sink>(sink: &mut K, keyword: &[u8], word: &[Letter]) -> Result<(), Failed>
     ensures took { Puts (K.taken sink.old) (K.taken sink.new) result
         (line (keyword.now ++ word_field word.now)) }
     ensures cause { HasCause (K.faults sink.old) (K.faults sink.new) result }

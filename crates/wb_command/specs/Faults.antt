@@ -9,7 +9,7 @@
 use Rattle.std.specs.Prelude.{ℕ, List, ◌++◌, codes, decimal}
 use Rattle.wb_base.specs.Lines.{line}
 use Rattle.wb_command.specs.declared.fault.Fault.{Fault}
-use Rattle.wb_command.specs.declared.fault.Fault.TheVariants.{Lines, Letters, Index, Long, Strands, Term, Deep, Many, Twice, Unknown, Address, Expand}
+use Rattle.wb_command.specs.declared.fault.Fault.TheVariants.{Lines, Letters, Index, Long, Strands, Negative, Term, Deep, Many, Twice, Unknown, Address, Expand}
 
 abbrev pub numbered_fault : ℕ → List ℕ → ℕ → List ℕ
 numbered_fault k name number = line (((codes "input " ++ decimal k) ++ name) ++ decimal number)
@@ -23,6 +23,7 @@ fault_text (Letters k place) = numbered_fault k (codes " letter ") place
 fault_text (Index k place) = numbered_fault k (codes " index ") place
 fault_text (Long k count) = numbered_fault k (codes " long ") count
 fault_text (Strands k place) = numbered_fault k (codes " strands ") place
+fault_text (Negative k place) = numbered_fault k (codes " negative ") place
 fault_text (Term k place) = numbered_fault k (codes " term ") place
 fault_text (Deep k height) = numbered_fault k (codes " deep ") height
 fault_text (Many k products) = numbered_fault k (codes " many ") products

@@ -1,20 +1,25 @@
 -- The words of a command's input, or its first fault.
 --
 -- Lines count from 1. The first line with a fault decides: one that is missing, that is no word, that has
--- an index which the strands don't allow, or that is one too many.
+-- an index which the strands don't allow, that has an inverse letter where the words are to be positive, or
+-- that is one too many.
 -- Source: this project's own.
 --
---   word_on N k text      the word on N strands of line k, or its fault
---   one_word N input      the word of an input of exactly one line, or its first fault
---   two_words N input     the words of an input of exactly two lines, or its first fault
-use Rattle.std.specs.Prelude.{ℕ, ◌+◌, List, [], ◌∷◌, Option, Some, None, Result, Ok, Err}
+--   word_on N k text            the word on N strands of line k, or its fault
+--   positive_word_on N k text   the same of a positive word
+--   line_word P N k text        one or the other, as P is false or true
+--   one_word N input            the word of an input of exactly one line, or its first fault
+--   two_words_of read lines     the words that `read` gives of exactly two lines, or the first fault
+--   two_words N input           the words of an input of exactly two lines, or its first fault
+--   two_positive_words N input  the same of positive words
+use Rattle.std.specs.Prelude.{ℕ, ◌+◌, Bool, true, false, List, [], ◌∷◌, Option, Some, None, Result, Ok, Err}
 use Rattle.wb_base.specs.Lines.{lines_of}
-use Rattle.braid_word.specs.Words.{Letter, first_outside}
+use Rattle.braid_word.specs.Words.{Letter, first_outside, first_negative}
 use Rattle.braid_word.specs.Notation.{word_of}
 use Rattle.braid_word.specs.declared.reader.WordErr.{WordErr}
 use Rattle.braid_word.specs.declared.reader.WordErr.TheVariants as word_errors
 use Rattle.wb_command.specs.declared.fault.Fault.{Fault}
-use Rattle.wb_command.specs.declared.fault.Fault.TheVariants.{Lines, Letters, Index, Long, Strands}
+use Rattle.wb_command.specs.declared.fault.Fault.TheVariants.{Lines, Letters, Index, Long, Strands, Negative}
 
 -- ---- One line ----
 
@@ -37,6 +42,26 @@ word_by strands k (Err e) = Err (fault_of k e)
 -- The word of a line. Its spelling comes before the strands.
 abbrev pub word_on : ℕ → ℕ → List ℕ → Result (List Letter) Fault
 word_on strands k text = word_by strands k (word_of text)
+
+-- ---- One line, of a positive word ----
+
+-- A word has a fault where it has an inverse letter: the place of the first such.
+abbrev pub unless_negative : ℕ → List Letter → Option ℕ → Result (List Letter) Fault
+unless_negative k w None = Ok w
+unless_negative k w (Some place) = Err (Negative k (place + 1))
+
+abbrev pub positive_by : ℕ → Result (List Letter) Fault → Result (List Letter) Fault
+positive_by k (Ok w) = unless_negative k w (first_negative w)
+positive_by k (Err fault) = Err fault
+
+-- The positive word of a line. Its spelling and the strands come before inverse letters.
+abbrev pub positive_word_on : ℕ → ℕ → List ℕ → Result (List Letter) Fault
+positive_word_on strands k text = positive_by k (word_on strands k text)
+
+-- The word of a line, which has to be positive where the Bool is true.
+abbrev pub line_word : Bool → ℕ → ℕ → List ℕ → Result (List Letter) Fault
+line_word false strands k text = word_on strands k text
+line_word true strands k text = positive_word_on strands k text
 
 -- ---- Whole inputs ----
 
@@ -63,16 +88,20 @@ abbrev pub second_word : List Letter → List (List ℕ) → Result (List Letter
 second_word u rest (Ok v) = ends_with (u, v) 3 rest
 second_word u rest (Err fault) = Err fault
 
--- A first word, and then a second.
-abbrev pub first_word : ℕ → List (List ℕ) → Result (List Letter) Fault
-    → Result (List Letter × List Letter) Fault
-first_word strands [] (Ok u) = Err (Lines 2)
-first_word strands (text ∷ rest) (Ok u) = second_word u rest (word_on strands 2 text)
-first_word strands rest (Err fault) = Err fault
+-- A first word, and then a second, which `read` gives of a line and its text.
+abbrev pub first_word : (ℕ → List ℕ → Result (List Letter) Fault) → List (List ℕ)
+    → Result (List Letter) Fault → Result (List Letter × List Letter) Fault
+first_word read [] (Ok u) = Err (Lines 2)
+first_word read (text ∷ rest) (Ok u) = second_word u rest (read 2 text)
+first_word read rest (Err fault) = Err fault
 
-abbrev pub two_words_of : ℕ → List (List ℕ) → Result (List Letter × List Letter) Fault
-two_words_of strands [] = Err (Lines 1)
-two_words_of strands (text ∷ rest) = first_word strands rest (word_on strands 1 text)
+abbrev pub two_words_of : (ℕ → List ℕ → Result (List Letter) Fault) → List (List ℕ)
+    → Result (List Letter × List Letter) Fault
+two_words_of read [] = Err (Lines 1)
+two_words_of read (text ∷ rest) = first_word read rest (read 1 text)
 
 unfoldable pub two_words : ℕ → List ℕ → Result (List Letter × List Letter) Fault
-two_words strands input = two_words_of strands (lines_of input)
+two_words strands input = two_words_of (line_word false strands) (lines_of input)
+
+unfoldable pub two_positive_words : ℕ → List ℕ → Result (List Letter × List Letter) Fault
+two_positive_words strands input = two_words_of (line_word true strands) (lines_of input)

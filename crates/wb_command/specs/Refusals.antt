@@ -16,7 +16,7 @@ use Rattle.braid_word.specs.declared.TheConstants.{MAX_INDEX}
 use Rattle.ld_term.specs.declared.TheConstants.{MAX_HEIGHT}
 use Rattle.term_graph.specs.declared.TheConstants.{MAX_NODES}
 use Rattle.wb_command.specs.declared.refusal.Refusal.{Refusal}
-use Rattle.wb_command.specs.declared.refusal.Refusal.TheVariants.{BadInput, InputMet, HandlesMet, LengthMet, ImageMet, HeightMet, NodesMet, IndexMet, LengthNeeded}
+use Rattle.wb_command.specs.declared.refusal.Refusal.TheVariants.{BadInput, InputMet, HandlesMet, LengthMet, LettersMet, ImageMet, HeightMet, NodesMet, IndexMet, LengthNeeded}
 use Rattle.wb_command.specs.declared.refusal.Comes.{Comes}
 use Rattle.wb_command.specs.declared.refusal.Comes.TheVariants as comes
 use Rattle.wb_command.specs.Answers.{bad_input, limit_met}
@@ -46,6 +46,7 @@ refusal_answer (BadInput fault) = bad_input fault
 refusal_answer InputMet = input_met
 refusal_answer (HandlesMet handles) = limit_met (codes "handles ") handles
 refusal_answer (LengthMet limit) = limit_met (codes "length ") limit
+refusal_answer (LettersMet limit) = limit_met (codes "letters ") limit
 refusal_answer (ImageMet limit) = limit_met (codes "image ") limit
 refusal_answer HeightMet = height_met
 refusal_answer NodesMet = nodes_met

@@ -17,6 +17,8 @@ pub enum Fault {
     /// The letter at this place of the word, counted from 1, is the first whose index isn't below the
     /// number of strands.
     Strands(u64, u64),
+    /// The letter at this place of the word, counted from 1, is the first inverse one, where none may be.
+    Negative(u64, u64),
     /// The line leaves the grammar of terms at this byte, counted from 1.
     Term(u64, u64),
     /// The term has so great a height, which is too great.
@@ -45,6 +47,7 @@ impl Fault {
             Fault::Index(line, place) => put_fault(sink, line, b" index ", place),
             Fault::Long(line, count) => put_fault(sink, line, b" long ", count),
             Fault::Strands(line, place) => put_fault(sink, line, b" strands ", place),
+            Fault::Negative(line, place) => put_fault(sink, line, b" negative ", place),
             Fault::Term(line, place) => put_fault(sink, line, b" term ", place),
             Fault::Deep(line, height) => put_fault(sink, line, b" deep ", height),
             Fault::Many(line, products) => put_fault(sink, line, b" many ", products),

@@ -11,7 +11,7 @@ mod term_input;
 
 pub use args::Args;
 pub use fault::Fault;
-pub use input::{InputErr, read_one_word, read_two_words};
+pub use input::{InputErr, read_one_word, read_two_positive_words, read_two_words};
 pub use refusal::{Comes, Refusal, Written};
 pub use streamed::{Streamed, run_streamed};
 pub use task::{Served, Stop, Task, run_task};

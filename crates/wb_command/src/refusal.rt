@@ -39,6 +39,8 @@ pub enum Refusal {
     HandlesMet(u64),
     /// A word has more letters than it may.
     LengthMet(u64),
+    /// A word of the input has more letters than the command works on.
+    LettersMet(u64),
     /// An image has more generators than it may.
     ImageMet(u64),
     /// A term is higher than may be.
@@ -74,6 +76,7 @@ impl Written for Refusal {
             Refusal::InputMet
             | Refusal::HandlesMet(_)
             | Refusal::LengthMet(_)
+            | Refusal::LettersMet(_)
             | Refusal::ImageMet(_)
             | Refusal::HeightMet
             | Refusal::NodesMet
@@ -88,6 +91,7 @@ impl Written for Refusal {
             Refusal::InputMet => put_numbered_line(sink, b"limit input ", MAX_INPUT as u64),
             Refusal::HandlesMet(handles) => put_numbered_line(sink, b"limit handles ", *handles),
             Refusal::LengthMet(limit) => put_numbered_line(sink, b"limit length ", *limit),
+            Refusal::LettersMet(limit) => put_numbered_line(sink, b"limit letters ", *limit),
             Refusal::ImageMet(limit) => put_numbered_line(sink, b"limit image ", *limit),
             Refusal::HeightMet => put_numbered_line(sink, b"limit height ", MAX_HEIGHT),
             Refusal::NodesMet => put_numbered_line(sink, b"limit nodes ", u64::from(MAX_NODES)),

@@ -20,13 +20,13 @@ pub trait Streamed {
     /// What it means.
     ghost meaning: { Self → Meaning };
 
-    /// It has an input, which has one answer at most, and what this says of the input holds.
+    /// It reads its whole input; an input has one answer at most, and what this says of the input holds.
     fn law_streamed(&self)
         ensures reads { (meaning self.now).reads ≡ reads_whole }
         ensures sound { IsSound (meaning self.now) };
 
-    /// What it comes to on all bytes of a source. One byte past the limit of an input is read, and none behind
-    /// it.
+    /// What it comes to on all bytes of a source. Of more bytes than the limit of an input one past it is
+    /// taken, and none behind that.
     fn perform<S: Source>(&self, alloc: Global, source: &mut S) -> Result<Comes<Self::Done>, Stop>
         ensures outcome { IfOk result (λ outcome.
             IfSome (S.left source.old) (λ input.

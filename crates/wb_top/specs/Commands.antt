@@ -18,6 +18,7 @@ use Rattle.wb_compare.specs.Same.{same_meaning, strands_of}
 use Rattle.wb_compare.specs.Check.{check_meaning}
 use Rattle.wb_words.specs.Normal.{normal_meaning, normal_of}
 use Rattle.wb_words.specs.Act.{act_meaning, act_of}
+use Rattle.wb_words.specs.GreatestDivisor.{gcd_meaning, gcd_of}
 use Rattle.wb_words.specs.Bench.{bench_meaning, bench_of}
 use Rattle.wb_terms.specs.Eval.{eval_meaning, eval_of}
 use Rattle.wb_terms.specs.Value.{value_meaning, value_of_words}
@@ -27,7 +28,7 @@ use Rattle.wb_terms.specs.Laver.{laver_meaning, laver_of}
 use Rattle.wb_terms.specs.Row.{row_meaning, row_of_words}
 use Rattle.wb_top.specs.Session.{session_meaning}
 use Rattle.wb_top.specs.declared.command.Command.{Command}
-use Rattle.wb_top.specs.declared.command.Command.TheVariants.{Compare, Terms, Check, Normal, Same, Act, Eval, Value, Expand, Derive, Laver, Row, Session, Bench}
+use Rattle.wb_top.specs.declared.command.Command.TheVariants.{Compare, Terms, Check, Normal, Same, Act, Gcd, Eval, Value, Expand, Derive, Laver, Row, Session, Bench}
 
 -- The command of a name, from `laver` on.
 abbrev pub table_command_of : List ℕ → List (List ℕ) → Option Command
@@ -52,7 +53,8 @@ word_command_of name words =
     if bytes_eq name (codes "normal") then option_map Normal (normal_of words)
     else (if bytes_eq name (codes "same") then option_map Same (strands_of words)
     else (if bytes_eq name (codes "act") then option_map Act (act_of words)
-    else term_command_of name words))
+    else (if bytes_eq name (codes "gcd") then option_map Gcd (gcd_of words)
+    else term_command_of name words)))
 
 -- The command of some words: its name, and then its arguments.
 abbrev pub command_of : List (List ℕ) → Option Command
@@ -70,6 +72,7 @@ meaning_of Check = check_meaning
 meaning_of (Normal strands) = normal_meaning strands
 meaning_of (Same strands) = same_meaning strands
 meaning_of (Act numbers) = act_meaning numbers
+meaning_of (Gcd strands) = gcd_meaning strands
 meaning_of (Eval limit) = eval_meaning limit
 meaning_of (Value exponent) = value_meaning exponent
 meaning_of (Expand address) = expand_meaning address

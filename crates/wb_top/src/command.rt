@@ -10,7 +10,7 @@ use wb_base::{Sink, Source, Status};
 use wb_command::{Args, Served, Streamed, Task, run_streamed, run_task};
 use wb_compare::{Check, Compare, CompareTerms, Same};
 use wb_terms::{Derive, Eval, Expand, Laver, Row, Valuation};
-use wb_words::{Act, Bench, Normal};
+use wb_words::{Act, Bench, Gcd, Normal};
 
 /// A command of the program.
 #[derive(Drop)]
@@ -27,6 +27,8 @@ pub enum Command<'a> {
     Same(Same),
     /// Gives the image of a generator of the free group under a word.
     Act(Act),
+    /// Gives the greatest common left divisor of two positive words.
+    Gcd(Gcd),
     /// Gives the braid word of a term.
     Eval(Eval),
     /// Gives the value of a term in a Laver table.
@@ -100,6 +102,8 @@ fn read_word_command<'a>(name: &str, words: &mut Args<'a>) -> Option<Command<'a>
         Some(Command::Same(Same::read(words)?))
     } else if name == "act" {
         Some(Command::Act(Act::read(words)?))
+    } else if name == "gcd" {
+        Some(Command::Gcd(Gcd::read(words)?))
     } else {
         read_term_command(name, words)
     }
@@ -135,6 +139,7 @@ impl<'a> Command<'a> {
             Command::Normal(task) => task.law_sound(),
             Command::Same(task) => task.law_sound(),
             Command::Act(task) => task.law_sound(),
+            Command::Gcd(task) => task.law_sound(),
             Command::Eval(task) => task.law_sound(),
             Command::Value(task) => task.law_sound(),
             Command::Expand(task) => task.law_sound(),
@@ -181,6 +186,7 @@ pub(crate) fn run_command<S: Source, K: Sink>(
         Command::Normal(task) => run_task(alloc, task, source, sink),
         Command::Same(task) => run_task(alloc, task, source, sink),
         Command::Act(task) => run_task(alloc, task, source, sink),
+        Command::Gcd(task) => run_task(alloc, task, source, sink),
         Command::Eval(task) => run_task(alloc, task, source, sink),
         Command::Value(task) => run_task(alloc, task, source, sink),
         Command::Expand(task) => run_task(alloc, task, source, sink),

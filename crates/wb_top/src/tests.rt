@@ -55,7 +55,7 @@ fn assert_rows(
 ) -> Result<(), AllocError> {
     for (row, (line, input, status, text)) in rows.iter().enumerate() {
         let mut source = MemSource::new(alloc, input, 1000, failing)?;
-        let mut sink = MemSink::new(alloc, 1000, 1000, &[])?;
+        let mut sink = MemSink::new(alloc, text.len().max(1000), 1000, &[])?;
         assert_ends(
             rt,
             alloc,
@@ -407,6 +407,129 @@ fn gives_normal_forms(rt: HostRuntime) -> Result<(), Fail> {
     Ok(assert_rows(&rt, rt.alloc(), &rows, &[])?)
 }
 
+// What `gcd` writes of a divisor and of what is left of the two words.
+fn division(alloc: Global, words: [&str; 3]) -> Result<Vec<u8>, AllocError> {
+    let mut text = Vec::new(alloc);
+    for (name, word) in ["divisor", "left", "right"].into_iter().zip(words) {
+        text.extend_from_slice(name.as_bytes())?;
+        if !word.is_empty() {
+            text.extend_from_slice(b" ")?;
+            text.extend_from_slice(word.as_bytes())?;
+        }
+        text.extend_from_slice(b"\n")?;
+    }
+    Ok(text)
+}
+
+#[test]
+fn gives_greatest_common_divisors(rt: HostRuntime) -> Result<(), Fail> {
+    let alloc = rt.alloc();
+    let rows: [(&str, &[u8], [&str; 3]); 17] = [
+        ("gcd 3", b"1 2\n1 2 1\n", ["1 2", "", "1"]),
+        ("gcd 3", b"1 1\n2 2\n", ["", "1 1", "2 2"]),
+        ("gcd 3", b"2 1 2 1\n1 2 1 1\n", ["1 2 1 1", "", ""]),
+        ("gcd 3", b"ab\naba", ["1 2", "", "1"]),
+        ("gcd 3", b"\n\n", ["", "", ""]),
+        ("gcd 3", b"\n1 2\n", ["", "", "1 2"]),
+        ("gcd 3", b"1 2\n \n", ["", "1 2", ""]),
+        ("gcd 2", b"1 1 1\n1 1\n", ["1 1", "1", ""]),
+        ("gcd 2", b"1 1\n1 1\n", ["1 1", "", ""]),
+        ("gcd 3", b"1 2 1 1\n1 2 1 2\n", ["1 2 1", "1", "2"]),
+        ("gcd 3", b"1 2 1 1 2 1\n1 2 1 2 1\n", ["1 2 1 2 1", "2", ""]),
+        ("gcd 4", b"1 2 3 1 2 1\n3 3\n", ["3", "1 2 1 3 2", "3"]),
+        ("gcd 4", b"2 1 3 2 1\n2 1 3 2 3\n", ["2 1 3 2", "1", "3"]),
+        ("gcd 4", b"2 2 1 3\n2 3 1 2\n", ["2", "2 1 3", "1 3 2"]),
+        ("gcd 4", b"3 2 1 3 2 3\n3 2 3\n", ["2 3 2", "1 2 3", ""]),
+        ("gcd 5", b"4 3 2 1\n4 2 1\n", ["4", "3 2 1", "2 1"]),
+        ("gcd 64", b"63 62 63 1\n62 63 62\n", ["62 63 62", "1", ""]),
+    ];
+    for (line, input, words) in rows {
+        let text = division(alloc, words)?;
+        assert_rows(&rt, alloc, &[(line, input, Status::Done, &text)], &[])?;
+    }
+    Ok(())
+}
+
+#[test]
+fn says_what_keeps_two_words_from_being_divided(rt: HostRuntime) -> Result<(), Fail> {
+    let rows: [(&[u8], &[u8]); 17] = [
+        (b"1 -2\n1\n", b"input 1 negative 2\n"),
+        (b"1\n1 2 -1 -2\n", b"input 2 negative 3\n"),
+        (b"-1\n-1\n", b"input 1 negative 1\n"),
+        (b"aB\na\n", b"input 1 negative 2\n"),
+        (b"-1 3\n1\n", b"input 1 strands 2\n"),
+        (b"-3\n1\n", b"input 1 strands 1\n"),
+        (b"1\n-2 1 4\n", b"input 2 strands 3\n"),
+        (b"-1 3 02\n1\n", b"input 1 letter 6\n"),
+        (b"1\n-1 0\n", b"input 2 index 4\n"),
+        (b"-1\n02\n", b"input 1 negative 1\n"),
+        (b"-1\n", b"input 1 negative 1\n"),
+        (b"3\n-1\n", b"input 1 strands 1\n"),
+        (b"", b"input 1 lines\n"),
+        (b"1\n", b"input 2 lines\n"),
+        (b"1\n2\n1\n", b"input 3 lines\n"),
+        (b"1\n3\n-1\n", b"input 2 strands 1\n"),
+        (b"1\n-2\n1\n", b"input 2 negative 1\n"),
+    ];
+    for (input, text) in rows {
+        assert_rows(
+            &rt,
+            rt.alloc(),
+            &[("gcd 3", input, Status::Input, text)],
+            &[],
+        )?;
+    }
+    for line in ["gcd", "gcd 1", "gcd 65", "gcd 03", "gcd 3 3"] {
+        assert_rows(
+            &rt,
+            rt.alloc(),
+            &[(line, b"1\n1\n", Status::Words, USAGE)],
+            &[],
+        )?;
+    }
+    Ok(())
+}
+
+// A line of so many letters `1`, and then a second line.
+fn ones_and(alloc: Global, count: usize, second: &[u8]) -> Result<Vec<u8>, AllocError> {
+    let mut input = Vec::new(alloc);
+    for _ in 0..count {
+        input.extend_from_slice(b"1 ")?;
+    }
+    input.extend_from_slice(b"\n")?;
+    input.extend_from_slice(second)?;
+    Ok(input)
+}
+
+#[test]
+fn divides_words_of_up_to_2000_letters(rt: HostRuntime) -> Result<(), Fail> {
+    let alloc = rt.alloc();
+    let limit = b"limit letters 2000\n".as_slice();
+    let long = ones_and(alloc, 2001, b"\n")?;
+    assert_rows(&rt, alloc, &[("gcd 2", &long, Status::Limit, limit)], &[])?;
+    let below = ones_and(alloc, 0, &ones_and(alloc, 2001, b"")?)?;
+    assert_rows(&rt, alloc, &[("gcd 2", &below, Status::Limit, limit)], &[])?;
+    // The form comes before the limit.
+    let lines = ones_and(alloc, 2001, b"\n\n")?;
+    let three = b"input 3 lines\n".as_slice();
+    assert_rows(&rt, alloc, &[("gcd 2", &lines, Status::Input, three)], &[])?;
+    let inverse = ones_and(alloc, 2001, b"-1\n")?;
+    let negative = b"input 2 negative 1\n".as_slice();
+    assert_rows(
+        &rt,
+        alloc,
+        &[("gcd 2", &inverse, Status::Input, negative)],
+        &[],
+    )?;
+    let most = ones_and(alloc, 2000, b"1\n")?;
+    let mut rest = Vec::from_slice(alloc, b"divisor 1\nleft".as_slice())?;
+    for _ in 0..1999 {
+        rest.extend_from_slice(b" 1")?;
+    }
+    rest.extend_from_slice(b"\nright\n")?;
+    Ok(assert_rows(&rt, alloc, &[("gcd 2", &most, Status::Done, &rest)], &[])?)
+}
+
 #[test]
 fn tells_whether_words_are_equivalent(rt: HostRuntime) -> Result<(), Fail> {
     let rows: [Row; 8] = [
@@ -549,8 +672,8 @@ fn reads_nothing_for_words_that_are_no_command(rt: HostRuntime) -> Result<(), Fa
 fn answers_a_fault_at_each_call_of_a_stream(rt: HostRuntime) -> Result<(), Fail> {
     let alloc = rt.alloc();
     // A call for each byte, and one that finds the end.
-    for call in 0..5 {
-        let mut source = MemSource::new(alloc, b"1\n2\n", 1, &[call])?;
+    for call in 0..9 {
+        let mut source = MemSource::new(alloc, b"1 2\n2 1\n", 1, &[call])?;
         let mut sink = MemSink::new(alloc, 1000, 1000, &[])?;
         let answer: (Status, &[u8]) = (Status::ReadFault, b"");
         assert_ends(
@@ -564,10 +687,10 @@ fn answers_a_fault_at_each_call_of_a_stream(rt: HostRuntime) -> Result<(), Fail>
         )?;
     }
     // A call for each byte, and that of `done`.
-    for call in 0..=GREATER.len() {
-        let mut source = SureSource::new(alloc, b"1\n2\n", 1)?;
+    for call in 0..=LESS.len() {
+        let mut source = SureSource::new(alloc, b"1 2\n2 1\n", 1)?;
         let mut sink = MemSink::new(alloc, 1000, 1, &[call as u64])?;
-        let answer = (Status::WriteFault, &GREATER[..call]);
+        let answer = (Status::WriteFault, &LESS[..call]);
         assert_ends(
             &rt,
             alloc,
@@ -577,6 +700,91 @@ fn answers_a_fault_at_each_call_of_a_stream(rt: HostRuntime) -> Result<(), Fail>
             answer,
             call,
         )?;
+    }
+    Ok(())
+}
+
+/// A session of lines of each kind, each with its reply, which an LF ends.
+const SESSION: [(&[u8], &[u8]); 13] = [
+    (b"open a 9 9 | 1 2 | 2 1\n", b"opened a\n"),
+    (b"open b 9 9 | 1 2 1 | 2 1 2\n", b"opened b\n"),
+    (b"turn a 1\n", b"state a running 1\n"),
+    (b"turn b 2\n", b"state b running 2\n"),
+    (b"turn a 1\n", b"state a less 2\n"),
+    (b"take a\n", LESS),
+    (b"close a\n", b"closed a\n"),
+    (b"open a 9 9 | 1 2 | 2 1\n", b"opened a\n"),
+    (b"show a\n", b"state a running 0\n"),
+    (b"show c\n", b"no job c\n"),
+    (b"open a 9 9 | 1 | 2\n", b"twice a\n"),
+    (b"list\n", b"jobs 2\nstate b running 2\nstate a running 0\n"),
+    (b"walk\n", b"bad\n"),
+];
+
+/// The lines of `SESSION`, and their replies.
+fn session_texts(alloc: Global) -> Result<(Vec<u8>, Vec<u8>), AllocError> {
+    let mut lines = Vec::new(alloc);
+    let mut replies = Vec::new(alloc);
+    for (line, reply) in SESSION {
+        lines.extend_from_slice(line)?;
+        replies.extend_from_slice(reply)?;
+    }
+    Ok((lines, replies))
+}
+
+/// The length of the replies to the lines of `SESSION` that are whole in its first `read` bytes.
+fn replied_to(read: usize) -> usize {
+    let mut lines = 0usize;
+    let mut replies = 0usize;
+    for (line, reply) in SESSION {
+        lines = lines.saturating_add(line.len());
+        if lines > read {
+            break;
+        }
+        replies = replies.saturating_add(reply.len());
+    }
+    replies
+}
+
+/// How many bytes of replies are given before call `call` of a sink that takes a byte a call, where a
+/// call of `done` is behind each reply.
+fn given_before(call: usize) -> usize {
+    let mut left = call;
+    let mut given = 0usize;
+    for (_, reply) in SESSION {
+        if left <= reply.len() {
+            return given.saturating_add(left);
+        }
+        left -= reply.len() + 1;
+        given = given.saturating_add(reply.len());
+    }
+    given
+}
+
+#[test]
+fn a_session_has_answered_the_lines_before_a_fault(rt: HostRuntime) -> Result<(), Fail> {
+    let alloc = rt.alloc();
+    let (input, replies) = session_texts(alloc)?;
+    for call in 0..=input.len() {
+        let mut source = MemSource::new(alloc, &input, 1, &[call as u64])?;
+        let mut sink = MemSink::new(alloc, 1000, 1000, &[])?;
+        let replied = replied_to(call).min(replies.len());
+        let answer = (Status::ReadFault, &replies[..replied]);
+        assert_ends(&rt, alloc, "session", &mut source, &mut sink, answer, call)?;
+    }
+    Ok(())
+}
+
+#[test]
+fn a_session_gives_a_front_of_its_replies_up_to_a_fault(rt: HostRuntime) -> Result<(), Fail> {
+    let alloc = rt.alloc();
+    let (input, replies) = session_texts(alloc)?;
+    for call in 0..replies.len().saturating_add(SESSION.len()) {
+        let mut source = SureSource::new(alloc, &input, 1)?;
+        let mut sink = MemSink::new(alloc, 1000, 1, &[call as u64])?;
+        let given = given_before(call).min(replies.len());
+        let answer = (Status::WriteFault, &replies[..given]);
+        assert_ends(&rt, alloc, "session", &mut source, &mut sink, answer, call)?;
     }
     Ok(())
 }
@@ -608,12 +816,20 @@ fn spaces(alloc: Global, count: usize) -> Result<Vec<u8>, AllocError> {
     vec![in alloc; b' '; count]
 }
 
+// A file of so many bytes whose first line is no trace's.
+fn wrong_trace(alloc: Global, count: usize) -> Result<Vec<u8>, AllocError> {
+    let mut file = Vec::from_slice(alloc, b"braid-trace 2\n")?;
+    let rest = spaces(alloc, count.saturating_sub(file.len()))?;
+    file.extend_from_slice(&rest)?;
+    Ok(file)
+}
+
 #[test]
 fn reads_input_of_8388608_bytes_and_no_more(rt: HostRuntime) -> Result<(), Fail> {
     let alloc = rt.alloc();
     let most = spaces(alloc, 8_388_608)?;
-    let more = spaces(alloc, 8_388_609)?;
-    let rows: [Row; 2] = [
+    let more = wrong_trace(alloc, 8_388_609)?;
+    let rows: [Row; 3] = [
         ("compare 9 9", &most, Status::Input, b"input 2 lines\n"),
         (
             "compare 9 9",
@@ -621,6 +837,7 @@ fn reads_input_of_8388608_bytes_and_no_more(rt: HostRuntime) -> Result<(), Fail>
             Status::Limit,
             b"limit input 8388608\n",
         ),
+        ("check", &more, Status::Limit, b"limit input 8388608\n"),
     ];
     Ok(assert_rows(&rt, alloc, &rows, &[])?)
 }

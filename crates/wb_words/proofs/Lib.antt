@@ -1,5 +1,6 @@
 mod NormalCommandLemmas
 mod ActLemmas
+mod GcdLemmas
 mod TallyLemmas
 mod BenchFacts
 mod LimitFacts

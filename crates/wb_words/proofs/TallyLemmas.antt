@@ -2,8 +2,6 @@
 use Rattle.std.proofs.Common.{◌≡◌, ℕ, suc, zero, ◌+◌, ◌-◌, ◌<◌, ◌≤◌, List, [], ◌∷◌, ◌++◌, append_assoc, length, Option, Some, None, refl, sym, ap, ◌∙◌, arith}
 use Rattle.std.proofs.lemmas.List.{append-nil}
 use Rattle.braid_word.specs.Words.{Letter, quotient}
-use Rattle.braid_word.specs.declared.TheConstants.{MAX_LETTERS}
-use Rattle.braid_word.proofs.WordLemmas.{length-quotient}
 use Rattle.handle_reduce.specs.Runs.{RunState, LimitedRun, IsRunAfter}
 use Rattle.handle_reduce.proofs.RunLemmas.{length-steps}
 use Rattle.handle_reduce.specs.declared.TheConstants.{MAX_BOUND}
@@ -74,16 +72,6 @@ length-made_word strands (suc size) s = let more = length-made_word strands size
     omega (arith, more)
 
 -- ---- Runs ----
-
--- the quotient of two small words isn't too long
-pub quotient-small
-    : (w u v : List Letter)
-    → w ≡ quotient u v
-    → length u ≤ MAX_SIZE
-    → length v ≤ MAX_SIZE
-    → length w ≤ MAX_LETTERS
-quotient-small w u v is left right =
-    let same = ap length is in let size = length-quotient u v in omega (arith, same, size, left, right)
 
 -- a run makes no more reductions than it may
 pub run-small

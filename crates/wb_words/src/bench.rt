@@ -10,7 +10,7 @@ ghost use Rattle.wb_command.specs.declared.TheConstants.{MAX_STRANDS};
 ghost use Rattle.wb_words.specs.declared.TheConstants.{MAX_COUNT, MAX_SIZE};
 
 use crate::{MAX_COUNT, MAX_SIZE};
-use braid_word::{Account, Letter, Word, quotient};
+use braid_word::{Account, Letter, Word};
 use handle_reduce::{MAX_BOUND, Progress, Reducer};
 use std::alloc::{AllocError, Global};
 use std::marker::Model;
@@ -211,8 +211,7 @@ fn run_of(
         (quotient left.now right.now) pairs.handles pairs.limit pairs.handles) }
     ensures steps { IfOk result (λ r. length r.run.steps ≤ MAX_BOUND) }
 {
-    let word = quotient(alloc, left, right)?;
-    let mut reducer = Reducer::begin(alloc, word, pairs.handles, pairs.limit)?;
+    let mut reducer = Reducer::of_quotient(alloc, left, right, pairs.handles, pairs.limit)?;
     reducer.turn(pairs.handles);
     Ok(reducer)
 }

@@ -1,12 +1,14 @@
-//! The program's commands on words: normal forms, images of generators, tallies of runs.
+//! The program's commands on words: normal forms, common divisors, images of generators, tallies of runs.
 #![tactic(auto)]
 
 mod act;
 mod bench;
+mod gcd;
 mod normal;
 
 pub use act::Act;
 pub use bench::{Bench, Pairs};
+pub use gcd::Gcd;
 pub use normal::Normal;
 
 /// The most generators that an image may be allowed to have.

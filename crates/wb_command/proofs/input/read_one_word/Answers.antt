@@ -1,5 +1,5 @@
 use Rattle.std.proofs.Common.{◌∙◌}
-use Rattle.wb_command.proofs.InputLemmas.{one_word-none, one_word-first, one_word-failed, only_word-Ok, only_word-more}
+use Rattle.wb_command.proofs.ReadingLemmas.{one_word-none, one_word-first, one_word-failed, only_word-Ok, only_word-more}
 use Rattle.wb_command.proofs.input.read_one_word.Goals as goal
 
 pub returns-in_default : goal.returns-in_default

@@ -1,34 +1,5 @@
-use Rattle.std.proofs.Common.{◌∙◌}
-use Rattle.wb_command.proofs.InputLemmas.{two_words-none, two_words-first, two_words-failed, two_words-failed_second, first_word-none, first_word-more, second_word-Ok, second_word-more}
+use Rattle.wb_command.proofs.ReadingLemmas.{Reads-two_words}
 use Rattle.wb_command.proofs.input.read_two_words.Goals as goal
 
-pub returns-in_default : goal.returns-in_default
-returns-in_default c = two_words-none _ _ _ c.lines-lines.ensures c.in_default.ensures.steps.0
-
-pub returns-in_err-left : goal.returns-in_err-left
-returns-in_err-left c =
-    two_words-failed c.args.strands c.args.input.now _ _ _ c.in_err-left.field-0.0 _
-    c.lines-lines.ensures c.in-Some.ensures.steps c.in_err-left.ensures c.from_residual.ensures.1
-
-pub returns-in_default-next : goal.returns-in_default-next
-returns-in_default-next c =
-    two_words-first _ _ _ c.lines-lines.ensures _ _ c.in-Some.ensures.steps
-    ∙ first_word-none _ _ _ _ c.in_ok-left.ensures c.in_default-next.ensures.steps.0
-
-pub returns-in_err-right : goal.returns-in_err-right
-returns-in_err-right c =
-    two_words-failed_second c.args.strands c.args.input.now _ _ _ _ _ _ c.in_err-right.field-0.0 _
-    c.lines-lines.ensures c.in-Some.ensures.steps c.in-Some-next.ensures.steps c.in_ok-left.ensures
-    c.in_err-right.ensures c.from_residual-in_err-right.ensures.1
-
-pub returns-in-None : goal.returns-in-None
-returns-in-None c =
-    two_words-first _ _ _ c.lines-lines.ensures _ _ c.in-Some.ensures.steps
-    ∙ first_word-more _ _ _ _ _ _ c.in_ok-left.ensures c.in-Some-next.ensures.steps
-    ∙ second_word-Ok _ _ _ _ c.in_ok-right.ensures c.in-None.ensures.steps.0
-
-pub returns-in-Some-next-2 : goal.returns-in-Some-next-2
-returns-in-Some-next-2 c =
-    two_words-first _ _ _ c.lines-lines.ensures _ _ c.in-Some.ensures.steps
-    ∙ first_word-more _ _ _ _ _ _ c.in_ok-left.ensures c.in-Some-next.ensures.steps
-    ∙ second_word-more _ _ _ _ _ _ c.in_ok-right.ensures c.in-Some-next-2.ensures.steps
+pub returns : goal.returns
+returns c = Reads-two_words c.args.strands c.args.input.now _ c.read_two.ensures

@@ -1,8 +1,5 @@
-use Rattle.wb_words.proofs.TallyLemmas.{quotient-small, run-small}
+use Rattle.wb_words.proofs.TallyLemmas.{run-small}
 use Rattle.wb_words.proofs.bench.run_of.Goals as goal
-
-pub begin-requires-clause-word : goal.begin-requires-clause-word
-begin-requires-clause-word c = quotient-small _ _ _ c.in_ok-word.ensures c.requires.left c.requires.right
 
 pub returns-clause-steps : goal.returns-clause-steps
 returns-clause-steps c =

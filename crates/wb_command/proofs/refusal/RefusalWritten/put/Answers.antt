@@ -24,6 +24,12 @@ returns-in-LengthMet-clause-took g c = rw c.in-LengthMet.is c.put_numbered_line-
 pub returns-in-LengthMet-clause-cause : goal.returns-in-LengthMet-clause-cause
 returns-in-LengthMet-clause-cause g c = c.put_numbered_line-in-LengthMet.ensures.cause
 
+pub returns-in-LettersMet-clause-took : goal.returns-in-LettersMet-clause-took
+returns-in-LettersMet-clause-took g c = rw c.in-LettersMet.is c.put_numbered_line-in-LettersMet.ensures.took
+
+pub returns-in-LettersMet-clause-cause : goal.returns-in-LettersMet-clause-cause
+returns-in-LettersMet-clause-cause g c = c.put_numbered_line-in-LettersMet.ensures.cause
+
 pub returns-in-ImageMet-clause-cause : goal.returns-in-ImageMet-clause-cause
 returns-in-ImageMet-clause-cause g c = c.put_numbered_line-in-ImageMet.ensures.cause
 
