@@ -12,6 +12,7 @@ pub mod KeptLemmas
 pub mod PieceLemmas
 pub mod ByteLemmas
 pub mod SpellingLemmas
+pub mod FieldLemmas
 pub mod ReadWordLemmas
 pub mod WordFacts
 pub mod LimitFacts

@@ -14,6 +14,8 @@
 --   strict_word_of line     the word that a line in the strict spelling is, or its fault
 --   IsReadable w            w can be read
 --   word_text w             the strict spelling of w
+--   word_field w            what stands of w behind a keyword
+--   field_word behind       the word that stands behind a keyword, or its fault
 --   Gives result read       what a reader answered is what is read, unless memory ran out
 use Rattle.std.specs.Prelude.{ℕ, ◌+◌, ◌≤◌, ◌||◌, ◌==◌, nat_lt, Bool, not, if◌then◌else◌, List, [], ◌∷◌, length, map, filter, Option, Some, None, Result, Ok, Err}
 use Rattle.std.specs.List.{join_with_byte}
@@ -69,6 +71,13 @@ unfoldable pub strict_word_of : List ℕ → Result (List Letter) WordErr
 strict_word_of [] = Ok []
 strict_word_of (byte ∷ bytes) = not_too_long (letters_of (parts_of (byte ∷ bytes)))
 
+-- The word that stands behind a keyword: nothing is the empty word, and a space is followed by another word in
+-- the strict spelling. Behind a space alone a letter is missed.
+abbrev pub field_word : List ℕ → Result (List Letter) WordErr
+field_word [] = Ok []
+field_word (space ∷ []) = Err (BadLetter 1)
+field_word (space ∷ (byte ∷ bytes)) = strict_word_of (byte ∷ bytes)
+
 -- Whether a part is to be a letter: each in the strict spelling, else one that isn't empty. Both readings
 -- are one, but for this.
 abbrev pub is_piece : Bool → List ℕ → Bool
@@ -108,3 +117,8 @@ next_text x = 32 ∷ letter_text x
 -- The strict spelling. The empty word has no bytes.
 unfoldable pub word_text : List Letter → List ℕ
 word_text w = join_with_byte 32 (map letter_text w)
+
+-- A word behind its keyword: nothing for the empty word, else a space and the strict spelling.
+abbrev pub word_field : List Letter → List ℕ
+word_field [] = []
+word_field (x ∷ w) = 32 ∷ word_text (x ∷ w)

@@ -5,7 +5,7 @@ ghost use Rattle.std.specs.Str.Parse.{digits_value, AllDigits};
 ghost use Rattle.braid_word.specs.Words.{Letter as Signed};
 ghost use Rattle.braid_word.specs.NumberNotation.{has_minus, without_minus, is_numeral, letter_of};
 ghost use Rattle.braid_word.specs.LetterNotation.{first_byte, is_lettered, letter_of_byte};
-ghost use Rattle.braid_word.specs.Notation.{Gives, IsReadable, is_piece, letters_word_of, not_too_long, number_word_of, strict_word_of, word_by, word_of, word_text};
+ghost use Rattle.braid_word.specs.Notation.{Gives, IsReadable, field_word, is_piece, letters_word_of, not_too_long, number_word_of, strict_word_of, word_by, word_of, word_text};
 ghost use Rattle.braid_word.specs.declared.reader.WordErr.TheVariants.{Memory};
 
 use crate::letter::Letter;
@@ -252,4 +252,18 @@ pub fn read_strict_word(alloc: Global, bytes: &[u8]) -> Result<Word, WordErr>
     ensures exact { Gives result (strict_word_of bytes.now) }
 {
     read_strictly(alloc, bytes)
+}
+
+/// Reads what stands behind a keyword: nothing is the empty word, and a space is followed by another word in the
+/// strict spelling.
+///
+/// The refusals are those of [`read_strict_word`], with places behind the space; nothing there is no letter.
+pub fn read_word_field(alloc: Global, behind: &[u8]) -> Result<Word, WordErr>
+    ensures { Gives result (field_word behind.now) }
+{
+    match behind {
+        [] => Ok(Word::new(alloc)),
+        [_] => Err(WordErr::BadLetter { place: 1 }),
+        [_, bytes @ ..] => read_strict_word(alloc, bytes),
+    }
 }

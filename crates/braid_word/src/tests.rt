@@ -1,6 +1,6 @@
 use crate::{
     Letter, MAX_LETTERS, Sign, Word, WordErr, first_negative, first_outside, inverse, put_word,
-    quotient, read_strict_word, read_word, sign_of,
+    put_word_line, quotient, read_strict_word, read_word, read_word_field, sign_of,
 };
 use std::alloc::Global;
 use std::test::Fail;
@@ -86,6 +86,31 @@ fn reads_the_strict_spelling_and_no_other(rt: HostRuntime) -> Result<(), Fail> {
         let got = answer(rt.alloc(), read_strict_word(rt.alloc(), line.as_bytes()))?;
         assert_eq!(rt; got.as_slice(), want.as_bytes(), "of {line:?}");
     }
+    Ok(())
+}
+
+#[test]
+fn reads_and_puts_a_word_behind_a_keyword(rt: HostRuntime) -> Result<(), Fail> {
+    let alloc = rt.alloc();
+    for (behind, want) in [
+        ("", ""),
+        (" 1 -2", "1 -2"),
+        (" ", "no letter at byte 1"),
+        ("  1", "no letter at byte 1"),
+    ] {
+        let got = answer(alloc, read_word_field(alloc, behind.as_bytes()))?;
+        assert_eq!(rt; got.as_slice(), want.as_bytes(), "of {behind:?}");
+    }
+    // As many letters as several chunks have.
+    let mut line = Vec::from_slice(alloc, b"left".as_slice())?;
+    for _ in 0..100 {
+        line.extend_from_slice(b" -255")?;
+    }
+    let word = read_word_field(alloc, &line[4.min(line.len())..])?;
+    line.push(b'\n')?;
+    let mut sink = MemSink::new(alloc, 1000, 1000, &[])?;
+    put_word_line(&mut sink, b"left", word.letters())?;
+    assert_eq!(rt; sink.bytes(), line.as_slice());
     Ok(())
 }
 

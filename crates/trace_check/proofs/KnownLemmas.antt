@@ -1,11 +1,13 @@
 -- What is known of the letters of the present word.
 --
--- Letters that are known needn't be counted (`Counted-passed`). Where a reduction raises no letter, those
--- inside its handle are then known (`IsKnown-removed`).
-use Rattle.std.proofs.Common.{◌≡◌, ℕ, zero, suc, ◌+◌, ◌-◌, ◌<◌, ◌≤◌, ◌==◌, false, cond, max, min, Option, None, Some, MatchOption, List, [], ◌∷◌, ◌++◌, length, length-append, length-drop, take, drop, count_by, refl, sym, ap, ◌∙◌, arith, inl, inr}
+-- Letters that are known needn't be counted (`Counted-passed`). They stay known where another letter is taken
+-- out (`AreAbove-without`), and where a reduction raises no letter, those inside its handle are known, too
+-- (`AreAbove-inside`).
+use Rattle.std.proofs.Common.{◌≡◌, ℕ, zero, suc, ◌+◌, ◌-◌, ◌<◌, ◌≤◌, ◌==◌, false, cond, Option, None, Some, MatchOption, List, [], ◌∷◌, ◌++◌, length, length-drop, take, drop, count_by, refl, sym, ap, ◌∙◌, subst, arith, inl, inr}
 use Rattle.std.specs.List.{remove}
 use Rattle.std.proofs.lemmas.Bool.{cases_lt, eq-eqb}
-use Rattle.std.proofs.lemmas.List.{get_or-append_right, get_or-drop, length-take-le, take-append-drop}
+use Rattle.std.proofs.lemmas.List.{get_or-drop, take-append-drop}
+use Rattle.std.proofs.lemmas.List.Edits.{get_or-remove_above, get_or-remove_below, length-remove, remove-append_left, remove-append_right}
 use Rattle.std.proofs.lemmas.List.Sums.{sum_by-cons}
 use Rattle.braid_word.specs.Words.{Letter, letter}
 use Rattle.gap_word.specs.Gap.{Gap, gap, PopsRight}
@@ -13,9 +15,10 @@ use Rattle.handle_find.specs.Handles.{at}
 use Rattle.handle_find.specs.Scans.{whole, IsHandleAtCursor}
 use Rattle.handle_find.proofs.CursorLemmas.{at-left}
 use Rattle.handle_find.proofs.SurveyLemmas.{counted, counted-skip}
-use Rattle.trace_check.specs.Presents.{IsKnown, IsPassed, Counted}
+use Rattle.trace_check.specs.Presents.{AreAbove, IsKnown, IsPassed, Counted}
 use Rattle.trace_check.proofs.ReductionLemmas.{Counted-within}
 use Rattle.trace_check.specs.declared.known.Known.{Known}
+use Rattle.trace_check.specs.declared.known.Stretch.{Stretch}
 
 -- ---- Letters that aren't read ----
 
@@ -23,7 +26,7 @@ use Rattle.trace_check.specs.declared.known.Known.{Known}
 pub Counted-passed
     : (old : Gap Letter) (k : Known) (i from to low high n : ℕ)
     → IsKnown (whole old) k
-    → IsPassed k i from to low high
+    → IsPassed (λ w. IsKnown w k) i from to low high
     → to ≡ length old.left
     → Counted old.left i high n
     → Counted old.left i low n
@@ -38,10 +41,9 @@ Counted-passed old k i from to low high n known passed end all = record {
   where
     higher : (m : ℕ) → low ≤ m → m < high → i + 1 < (at old.left m).index
     higher m from before =
-        let (after, below, above) = passed.known m from before in
-        let read = known.higher m after below in
+        let read = passed.higher (whole old) known m from before in
         let place = at-left old.left old.right m (omega (arith, before, passed.ends, end)) in
-        omega (arith, above, read, ap (λ (x : Letter). x.index) place)
+        omega (arith, read, ap (λ (x : Letter). x.index) place)
 
     same : counted old.left (i + 1) low ≡ counted old.left (i + 1) high
     same =
@@ -49,29 +51,6 @@ Counted-passed old k i from to low high n known passed end all = record {
         counted-skip old.left (i + 1) low (high - low) (omega (arith, passed.ordered, passed.ends, end))
         (λ m from before. higher m from (omega (arith, before, passed.ordered)))
         ∙ ap (counted old.left (i + 1)) sum
-
--- a part of two places' letters that is known, and none
-pub IsPassed-between
-    : (k : Known) (i from to low high : ℕ)
-    → low ≡ max k.from from
-    → high ≡ min k.to to
-    → i < k.above
-    → low < high
-    → IsPassed k i from to low high
-IsPassed-between k i from to low high lower higher above some = record {
-  begins = omega (arith, lower);
-  ordered = omega (arith, some);
-  ends = omega (arith, higher);
-  known = λ m after before. (omega (arith, lower, after), omega (arith, higher, before), above);
-}
-
-pub IsPassed-none : (k : Known) (i from to : ℕ) → from ≤ to → IsPassed k i from to to to
-IsPassed-none k i from to ordered = record {
-  begins = ordered;
-  ordered = omega arith;
-  ends = omega arith;
-  known = λ m after before. absurd (omega (arith, after, before));
-}
 
 -- what is counted up to a part that is known, and before it, is counted in a handle
 pub Counted-raised
@@ -115,62 +94,117 @@ none_has i (x ∷ w) (suc m) none within is =
     let cut = sum_by-cons (λ (y : Letter). cond (y.index == i) 1 0) x w in
     none_has i w m (omega (arith, cut, none)) (omega (arith, within)) is
 
--- where none is raised, the letters inside are known behind
-pub IsKnown-removed
-    : (old popped new : Gap Letter) (first last : Letter) (p n to : ℕ)
+-- letters that are known stay so where another is taken out
+pub AreAbove-without
+    : (s t : Stretch) (out : ℕ)
+    → (s.from ≤ out → t.from ≡ s.from)
+    → (out < s.from → t.from ≡ s.from - 1)
+    → (s.to ≤ out → t.to ≡ s.to)
+    → (out < s.to → t.to ≡ s.to - 1)
+    → t.above ≡ s.above
+    → (w : List Letter)
+    → out < length w
+    → AreAbove w s
+    → AreAbove (remove w out) t
+AreAbove-without s t out first behind last before same w within above = record {
+  higher = λ m from to. elim (cases_lt m out) [
+    | inl low ↦
+        (let read = above.higher m (grind (arith, first, behind, from, low))
+        (grind (arith, last, before, to, low)) in
+        let place = get_or-remove_below w out (letter 0 false) m low within in
+        omega (arith, same, read, ap (λ (x : Letter). x.index) place))
+    | inr high ↦
+        (let read = above.higher (m + 1) (grind (arith, first, behind, from, high))
+        (grind (arith, last, before, to, high)) in
+        let place = get_or-remove_above w out (letter 0 false) m high within in
+        omega (arith, same, read, ap (λ (x : Letter). x.index) place))
+  ];
+}
+
+-- the two ends of a handle are taken out
+pub whole-closed
+    : (old popped new : Gap Letter) (last : Letter) (p : ℕ)
+    → p < length old.left
+    → PopsRight old last popped
+    → new ≡ gap (remove popped.left p) popped.right (popped.spare + 1)
+    → whole new ≡ remove (remove (whole old) (length old.left)) p
+whole-closed old popped new last p within pops removed =
+    rw (removed, pops.left, out) (sym (remove-append_left old.left popped.right p within))
+  where
+    first_out : (l : List Letter) → remove (l ++ last ∷ popped.right) (length l) ≡ l ++ popped.right
+    first_out l =
+        let none : length l - length l ≡ 0 = omega arith in
+        remove-append_right l (last ∷ popped.right) (length l) (length l) refl (omega arith)
+        ∙ ap (λ k. l ++ remove (last ∷ popped.right) k) none
+
+    out : remove (whole old) (length old.left) ≡ old.left ++ popped.right
+    out = ap (λ r. remove (old.left ++ r) (length old.left)) pops.right ∙ first_out old.left
+
+-- and where none is raised, the letters inside are known
+pub AreAbove-inside
+    : (old : Gap Letter) (first : Letter) (p n : ℕ) (s : Stretch)
+    → IsHandleAtCursor old p
+    → first ≡ at old.left p
+    → n ≡ count_by (λ x. x.index == (at old.left p).index + 1) (drop (p + 1) old.left)
+    → n ≡ 0
+    → s.from ≡ p
+    → s.to ≡ length old.left - 1
+    → s.above ≡ first.index + 1
+    → AreAbove (remove (remove (whole old) (length old.left)) p) s
+AreAbove-inside old first p n s handle is count none from to above = record { higher = higher }
+  where
+    index_of : Letter → ℕ
+    index_of x = x.index
+
+    higher
+        : (m : ℕ)
+        → s.from ≤ m
+        → m < s.to
+        → s.above < (at (remove (remove (whole old) (length old.left)) p) m).index
+    higher m after before =
+        let behind : p ≤ m = omega (arith, from, after) in
+        let below : m + 1 < length old.left = omega (arith, to, before) in
+        let less = length-remove (whole old) (length old.left) handle.within in
+        let place = get_or-remove_above (remove (whole old) (length old.left)) p (letter 0 false) m behind
+        (omega (arith, less, handle.within, handle.ordered)) in
+        let place' = get_or-remove_below (whole old) (length old.left) (letter 0 false) (m + 1) below
+        handle.within in
+        let here = ap index_of (place ∙ place') in
+        let letter_is = ap index_of (at-left old.left old.right (m + 1) below) in
+        let start = ap index_of (at-left old.left old.right p handle.ordered) in
+        let inner = ap index_of (get_or-drop (p + 1) old.left (m - p) (letter 0 false)) in
+        let sum : p + 1 + (m - p) ≡ m + 1 = omega (arith, behind) in
+        let next = ap (λ k. (at old.left k).index) sum in
+        let higher = handle.higher_between (m + 1) (omega (arith, behind)) below in
+        let other = none_has ((at old.left p).index + 1) (drop (p + 1) old.left) (m - p) (sym count ∙ none)
+        (omega (arith, length-drop (p + 1) old.left, below, behind)) in
+        omega (arith, above, ap index_of is, here, letter_is, start, inner, next, higher, other)
+
+-- what is known behind, with those letters
+pub IsKnown-closed
+    : (old popped new : Gap Letter) (first last : Letter) (p n end : ℕ)
     → IsHandleAtCursor old p
     → first ≡ at old.left p
     → PopsRight old last popped
     → n ≡ count_by (λ x. x.index == (at old.left p).index + 1) (drop (p + 1) old.left)
     → n ≡ 0
     → new ≡ gap (remove popped.left p) popped.right (popped.spare + 1)
-    → to ≡ length new.left
-    → (k : Known)
-    → k.from ≡ p
-    → k.to ≡ to
-    → k.above ≡ first.index + 1
-    → IsKnown (whole new) k
-IsKnown-removed old popped new first last p n to handle is pops count none removed end k from until above =
-    record {
-      within = omega (arith, until, end, length-append new.left new.right);
-      higher = λ m after before. higher m (omega (arith, after, from)) (omega (arith, before, until, end));
-    }
-  where
-    front : length (take p old.left) ≡ p
-    front = length-take-le p old.left (omega (arith, handle.ordered))
-
-    index_of : Letter → ℕ
-    index_of x = x.index
-
-    unraised : count_by (λ (x : Letter). x.index == (at old.left p).index + 1) (drop (suc p) old.left) ≡ 0
-    unraised =
-        let next : suc p ≡ p + 1 = omega arith in
-        ap (λ k. count_by (λ (x : Letter). x.index == (at old.left p).index + 1) (drop k old.left)) next
-        ∙ sym count ∙ none
-
-    parts : new.left ≡ take p old.left ++ drop (suc p) old.left
-    parts = ap (λ g. g.left) removed ∙ ap (λ w. remove w p) pops.left
-
-    place
-        : (m : ℕ)
-        → p ≤ m
-        → at new.left m ≡ at (drop (suc p) old.left) (m - p)
-    place m after =
-        ap (λ w. at w m) parts
-        ∙ get_or-append_right (take p old.left) (drop (suc p) old.left) p m (letter 0 false) front after
-
-    higher : (m : ℕ) → p ≤ m → m < length new.left → k.above < (at (whole new) m).index
-    higher m after before =
-        let size = ap length parts in
-        let sum = length-append (take p old.left) (drop (suc p) old.left) in
-        let inner : m - p < length (drop (suc p) old.left)
-        = omega (arith, size, sum, front, before, after) in
-        let below : suc p + (m - p) < length old.left
-        = omega (arith, inner, length-drop (suc p) old.left, handle.ordered) in
-        let here = ap index_of (at-left new.left new.right m before ∙ place m after) in
-        let there = ap index_of (get_or-drop (suc p) old.left (m - p) (letter 0 false)) in
-        let between = handle.higher_between (suc p + (m - p)) (omega arith) below in
-        let start = ap index_of (at-left old.left old.right p handle.ordered) in
-        let letter_is = ap index_of (at-left old.left old.right (suc p + (m - p)) below) in
-        let other = none_has ((at old.left p).index + 1) (drop (suc p) old.left) (m - p) unraised inner in
-        omega (arith, above, ap index_of is, here, there, between, start, letter_is, other)
+    → end ≡ length old.left
+    → (known one two all : Known) (s : Stretch)
+    → ((w : List Letter) → end < length w → IsKnown w known → IsKnown (remove w end) one)
+    → ((w : List Letter) → p < length w → IsKnown w one → IsKnown (remove w p) two)
+    → ((w : List Letter) → IsKnown w two → AreAbove w s → IsKnown w all)
+    → s.from ≡ p
+    → s.to ≡ end - 1
+    → s.above ≡ first.index + 1
+    → IsKnown (whole old) known
+    → IsKnown (whole new) all
+IsKnown-closed old popped new first last p n end handle is pops count none removed cursor
+    known one two all s without_end without_start with from to above told =
+    let less = length-remove (whole old) (length old.left) handle.within in
+    rw (whole-closed old popped new last p handle.ordered pops removed)
+    (with _
+    (without_start _ (omega (arith, less, handle.within, handle.ordered))
+    (subst (λ k. IsKnown (remove (whole old) k) one) cursor
+    (without_end _ (omega (arith, cursor, handle.within)) told)))
+    (AreAbove-inside old first p n s handle is count none from (omega (arith, to, cursor)) above))

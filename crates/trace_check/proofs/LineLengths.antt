@@ -3,7 +3,7 @@ use Rattle.std.proofs.Common.{ℕ, ◌+◌, ◌*◌, ◌<◌, ◌≤◌, Bool, t
 use Rattle.std.proofs.lemmas.Fmt.{length-decimal-le_wide}
 use Rattle.wb_base.specs.Numbers.{sign_text}
 use Rattle.braid_word.specs.Words.{Letter, IsOn}
-use Rattle.braid_word.specs.Notation.{next_text, IsReadable}
+use Rattle.braid_word.specs.Notation.{next_text, IsReadable, word_field}
 use Rattle.braid_word.specs.declared.TheConstants.{MAX_INDEX}
 use Rattle.trace_format.specs.Said.{Said}
 use Rattle.trace_format.specs.Said as said
@@ -12,9 +12,9 @@ use Rattle.ld_term.specs.StrictTexts.{strict_text}
 use Rattle.ld_term.proofs.StrictLemmas.{length-strict_text}
 use Rattle.trace_format.specs.declared.line.StepLine.TheVariants.{Handle, Commute, Swap, Delete, Insert}
 use Rattle.trace_format.specs.declared.verdict.Verdict.TheVariants.{Less, Equal, Greater}
-use Rattle.trace_format.specs.TraceText.{word_field}
-use Rattle.trace_format.specs.TraceLines.{line_text, IsShortTerm, IsPlace, IsLine}
-use Rattle.trace_format.proofs.TraceLemmas.{word_field-flat_map}
+use Rattle.wb_base.specs.Fields.{IsPlace}
+use Rattle.trace_format.specs.TraceLines.{line_text, IsShortTerm, IsLine}
+use Rattle.braid_word.proofs.FieldLemmas.{word_field-flat_map}
 use Rattle.trace_check.specs.declared.TheConstants.{MAX_LINE}
 
 -- a letter behind a space has at most five bytes

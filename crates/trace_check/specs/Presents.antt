@@ -1,10 +1,11 @@
 -- The present word of a replay, in its room. No public clause cites this module.
 --
 --   IsPresent g      the buffer holds a word that isn't too long, in room for the longest and one letter more
---   IsKnown w k      the letters of w in the stretch k have indices above what is known of them
---   IsPassed k i from to low high
---                    of the letters between two places those from low up to high are known to be too high for
---                    a handle of index i to raise them
+--   AreAbove w s     the letters of w in the stretch s have indices above the one that is known of them
+--   IsKnown w k      so have those in both stretches of k
+--   IsPassed Told i from to low high
+--                    of the letters between two places those from low up to high are too high for a handle of
+--                    index i to raise them, in each word of which this is told
 --   Counted w i k n  the letters of w from place k on are higher than i, and n of them have the next index
 --   After result w   what a step answered that has left the word w
 --   Takes result g h the first letter of right was taken out of g, if there is one, and h is left
@@ -17,6 +18,7 @@ use Rattle.handle_find.specs.Handles.{at}
 use Rattle.handle_find.specs.Scans.{whole}
 use Rattle.trace_check.specs.declared.checked.Why.{Why}
 use Rattle.trace_check.specs.declared.known.Known.{Known}
+use Rattle.trace_check.specs.declared.known.Stretch.{Stretch}
 use Rattle.trace_check.specs.declared.checked.Why.TheVariants.{Step}
 
 pub record IsPresent (g : Gap Letter) : Type 0 where
@@ -24,16 +26,20 @@ pub record IsPresent (g : Gap Letter) : Type 0 where
   pub short : length (whole g) ≤ MAX_LETTERS
 
 -- Each letter of the stretch, whose places count from 0, has an index above the one that is known.
-pub record IsKnown (w : List Letter) (k : Known) : Type 0 where
-  pub within : k.to ≤ length w
-  pub higher : (m : ℕ) → k.from ≤ m → m < k.to → k.above < (at w m).index
+pub record AreAbove (w : List Letter) (s : Stretch) : Type 0 where
+  pub higher : (m : ℕ) → s.from ≤ m → m < s.to → s.above < (at w m).index
 
--- A letter that is known has a place in the stretch, and the stretch lies above the next index to i.
-pub record IsPassed (k : Known) (i from to low high : ℕ) : Type 0 where
+-- So have the letters of both stretches that are known.
+pub record IsKnown (w : List Letter) (k : Known) : Type 0 where
+  pub inside : AreAbove w k.inside
+  pub other : AreAbove w k.other
+
+-- In each word of which this is told, the letters from low up to high have indices above the next one to i.
+pub record IsPassed (Told : List Letter → Type 0) (i from to low high : ℕ) : Type 0 where
   pub begins : from ≤ low
   pub ordered : low ≤ high
   pub ends : high ≤ to
-  pub known : (m : ℕ) → low ≤ m → m < high → (k.from ≤ m) × (m < k.to) × (i < k.above)
+  pub higher : (w : List Letter) → Told w → (m : ℕ) → low ≤ m → m < high → i + 1 < (at w m).index
 
 -- The letters from a place on are higher than i, and so many of them have the next index.
 pub record Counted (w : List Letter) (i k n : ℕ) : Type 0 where

@@ -6,13 +6,14 @@ ghost use Rattle.gap_word.specs.Gap.{gap};
 ghost use Rattle.gap_word.specs.declared.TheConstants.{MAX_ROOM};
 ghost use Rattle.handle_find.specs.Handles.{at};
 ghost use Rattle.handle_find.specs.Scans.{whole, IsHandleAtCursor, reduct_at_cursor};
-ghost use Rattle.trace_format.specs.TraceLines.{IsPlace, IsStepLine};
+ghost use Rattle.wb_base.specs.Fields.{IsPlace};
+ghost use Rattle.trace_format.specs.TraceLines.{IsStepLine};
 ghost use Rattle.trace_format.specs.declared.line.StepLine.TheVariants.{Handle, Commute, Swap, Delete, Insert};
 ghost use Rattle.trace_check.specs.Checking.{are_far, are_near, are_braided, are_inverse, stepped};
 ghost use Rattle.trace_check.specs.Presents.{IsPresent, IsKnown, Counted, After, Takes};
 
 use crate::checked::Why;
-use crate::known::Known;
+use crate::known::{Known, Stretch};
 use braid_word::{Letter, MAX_LETTERS};
 use gap_word::GapWord;
 use handle_find::{letter_at, take_back};
@@ -95,27 +96,30 @@ fn raised_in(word: &GapWord<Letter>, known: Known, start: usize) -> Option<usize
 }
 
 // Reduces the handle that ends at the cursor. Where no letter inside is raised, all of them are then known.
-fn close(word: &mut GapWord<Letter>, start: usize, raised: usize) -> Known
+fn close(word: &mut GapWord<Letter>, known: Known, start: usize, raised: usize) -> Known
     requires handle { IsHandleAtCursor word.old start }
     requires raised { raised ≡ count_by (λ x. x.index == (at word.old.left start).index + 1)
         (drop (start + 1) word.old.left) }
     requires present { IsPresent word.old }
+    requires known { IsKnown (whole word.old) known }
     requires short { length (reduct_at_cursor word.old start) ≤ MAX_LETTERS }
     ensures reduct { whole word.new ≡ reduct_at_cursor word.old start }
     ensures present { IsPresent word.new }
     ensures known { IsKnown (whole word.new) result }
 {
     let first = letter_at(word, start);
+    let end = word.left_len();
     let Some(_last) = word.pop_right() else {
         unreachable!();
     };
     if raised == 0 {
         word.remove_left(start);
-        return Known {
+        let inside = Stretch {
             from: start,
-            to: word.left_len(),
+            to: end - 1,
             above: first.index + 1,
         };
+        return known.without(end).without(start).with(inside);
     }
     take_back(word, start + 1, first);
     let Some(_first) = word.pop_left() else {
@@ -142,7 +146,7 @@ fn reduce(word: &mut GapWord<Letter>, known: Known, start: u32, end: u32) -> Res
     if word.left_len() + word.right_len() - 2 + 2 * raised > MAX_LETTERS {
         return Err(Why::Long);
     }
-    Ok(close(word, start, raised))
+    Ok(close(word, known, start, raised))
 }
 
 // Whether the indices of two letters are 2 or more apart.
@@ -261,7 +265,7 @@ fn insert(word: &mut GapWord<Letter>, place: u32, letter: Letter) -> Result<Know
     Ok(Known::nothing())
 }
 
-/// Makes a step, and answers what is then known. Only the next reduction has a use for it.
+/// Makes a step, and answers what is then known. Only reductions have a use for it.
 pub fn step_to(word: &mut GapWord<Letter>, known: Known, step: StepLine) -> Result<Known, Why>
     requires step { IsStepLine step }
     requires present { IsPresent word.old }

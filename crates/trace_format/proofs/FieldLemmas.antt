@@ -2,42 +2,33 @@
 --
 -- For each kind of field, what is read is spelled so (`field_word-is`, `only_place-is`, `two_places-is`,
 -- `place_and_letter-is`, `verdict_by-is`), and what is spelled so is read.
-use Rattle.std.proofs.Common.{◌≡◌, ℕ, ◌+◌, ◌<◌, Bool, true, false, cond, List, [], ◌∷◌, ◌++◌, length, drop, codes, decimal, Option, Some, None, Result, Ok, Err, refl, ap, ap₂, sym, ◌∙◌, subst, arith}
+use Rattle.std.proofs.Common.{◌≡◌, ℕ, ◌+◌, Bool, true, false, cond, List, [], ◌∷◌, ◌++◌, codes, decimal, Option, Some, None, Result, Ok, Err, refl, ap, ap₂, sym, ◌∙◌, subst, arith}
 use Rattle.std.specs.Str.{bytes_eq}
-use Rattle.std.proofs.lemmas.Bool.{and_parts, and_from, eqb-true, lt-ltb, ltb-true}
-use Rattle.std.proofs.lemmas.Option.{cond_some}
+use Rattle.std.proofs.lemmas.Bool.{eqb-true}
 use Rattle.std.proofs.lemmas.Slice.Eq.{bytes_eq-Decides}
 use Rattle.std.proofs.lemmas.List.{append-nil}
-use Rattle.std.proofs.Math.Seq.{drop-append_seam}
-use Rattle.wb_base.specs.Numbers.{digits_in_front, number_at}
-use Rattle.wb_base.proofs.NumberLemmas.{number_at-decimal, number_at-is}
+use Rattle.wb_base.proofs.FieldLemmas.{place_at-is, place_at-decimal}
 use Rattle.braid_word.specs.Words.{Letter, IsOn}
-use Rattle.braid_word.specs.Notation.{strict_word_of, IsReadable, letter_text, next_text, word_text}
+use Rattle.braid_word.specs.Notation.{strict_word_of, letter_text, next_text, word_text}
 use Rattle.braid_word.specs.declared.TheConstants.{MAX_INDEX}
 use Rattle.braid_word.specs.declared.reader.WordErr.{WordErr}
 use Rattle.braid_word.specs.declared.reader.WordErr.TheVariants as word_errors
-use Rattle.braid_word.proofs.NotationLemmas.{word_text-nil}
-use Rattle.wb_base.proofs.PartLemmas.{Ok-cond, Ok-injective, Some-cond}
-use Rattle.braid_word.proofs.SpellingLemmas.{strict_word_of-is, strict_word_of-word_text, length-word_text}
+use Rattle.wb_base.proofs.PartLemmas.{Ok-cond, Ok-injective}
+use Rattle.braid_word.proofs.SpellingLemmas.{strict_word_of-is, strict_word_of-word_text}
 use Rattle.trace_format.specs.declared.verdict.Verdict.{Verdict}
 use Rattle.trace_format.specs.declared.verdict.Verdict.TheVariants.{Less, Equal, Greater}
 use Rattle.trace_format.specs.declared.line.StepLine.{StepLine}
 use Rattle.trace_format.specs.declared.line.StepLine.TheVariants.{Handle, Insert}
 use Rattle.trace_format.specs.declared.line.LineErr.{LineErr}
 use Rattle.trace_format.specs.declared.line.LineErr.TheVariants.{Form}
-use Rattle.trace_format.specs.TraceText.{word_field, verdict_word}
-use Rattle.trace_format.specs.TraceLines.{strict_result, field_word, placed_by, place_at, made_of, only_place, two_places, letter_alone, only_letter, place_and_letter, verdict_by, IsPlace}
-use Rattle.trace_format.proofs.TraceLemmas.{word_field-some}
-
--- What can stand behind a keyword: nothing, or a space and more.
-abbrev pub IsBehind : List ℕ → Type 0
-IsBehind [] = Unit {0}
-IsBehind (byte ∷ bytes) = byte ≡ 32
+use Rattle.trace_format.specs.TraceText.{verdict_word}
+use Rattle.wb_base.specs.Fields.{place_at, IsPlace}
+use Rattle.trace_format.specs.TraceLines.{strict_result, made_of, only_place, two_places, letter_alone, only_letter, place_and_letter, verdict_by}
 
 -- ---- Words ----
 
 -- a word whose reading is no fault was read
-strict_result-is
+pub strict_result-is
     : (r : Result (List Letter) WordErr) (w : List Letter)
     → strict_result r ≡ Ok w
     → r ≡ Ok w
@@ -46,107 +37,6 @@ strict_result-is (Err (word_errors.TooLong count)) w is = absurd (cc)
 strict_result-is (Err (word_errors.BadLetter place)) w is = absurd (cc)
 strict_result-is (Err (word_errors.BadIndex place)) w is = absurd (cc)
 strict_result-is (Err word_errors.Memory) w is = absurd (cc)
-
--- a word whose spelling has a byte has a letter
-length-from_word_text : (w : List Letter) → 0 < length (word_text w) → 0 < length w
-length-from_word_text [] some = absurd (omega (arith, ap length word_text-nil))
-length-from_word_text (x ∷ w) some = omega arith
-
--- What some bytes behind a keyword are where a word was read.
-pub record IsField (behind : List ℕ) (w : List Letter) : Type 0 where
-  pub text : behind ≡ word_field w
-  pub readable : IsReadable w
-
--- a word that is read behind a keyword stands so there
-pub field_word-is
-    : (behind : List ℕ) (w : List Letter)
-    → IsBehind behind
-    → field_word behind ≡ Ok w
-    → IsField behind w
-field_word-is [] w spaced read =
-    subst (IsField []) (Ok-injective _ _ read) (record {
-      text = refl;
-      readable = record { short = omega arith; on = tt };
-    })
-field_word-is (space ∷ []) w spaced read = absurd (cc)
-field_word-is (space ∷ (byte ∷ bytes)) w spaced read =
-    let word = strict_word_of-is (byte ∷ bytes) w (strict_result-is _ w read) in
-    let some : 0 < length (word_text w) = omega (arith, ap length word.text) in
-    record {
-      text = ap₂ (λ (b : ℕ) text. b ∷ text) spaced word.text
-          ∙ sym (word_field-some w (length-from_word_text w some));
-      readable = word.readable;
-    }
-
--- a space and a byte are followed by a word
-field_word-some
-    : (bytes : List ℕ)
-    → 0 < length bytes
-    → field_word (32 ∷ bytes) ≡ strict_result (strict_word_of bytes)
-field_word-some [] some = absurd (omega arith)
-field_word-some (byte ∷ bytes) some = refl
-
--- a word that can be read is read behind a keyword
-pub field_word-word_field : (w : List Letter) → IsReadable w → field_word (word_field w) ≡ Ok w
-field_word-word_field [] readable = refl
-field_word-word_field (x ∷ w) readable =
-    field_word-some (word_text (x ∷ w)) (length-word_text x w readable.on)
-    ∙ ap strict_result (strict_word_of-word_text (x ∷ w) readable)
-
--- it stands behind a keyword
-pub IsBehind-word_field : (w : List Letter) → IsBehind (word_field w)
-IsBehind-word_field [] = tt
-IsBehind-word_field (x ∷ w) = refl
-
--- ---- Places ----
-
--- What some bytes are where a place stands in front, and these are left.
-record IsPlaced (bytes : List ℕ) (p : ℕ) (rest : List ℕ) : Type 0 where
-  text : bytes ≡ decimal p ++ rest
-  place : IsPlace p
-
--- a number in front that is a place stands there
-placed_by-is
-    : (bytes : List ℕ) (number : Option (ℕ × ℕ)) (p : ℕ) (rest : List ℕ)
-    → number_at bytes ≡ number
-    → placed_by bytes number ≡ Some (p, rest)
-    → IsPlaced bytes p rest
-placed_by-is bytes None p rest read placed = absurd (cc)
-placed_by-is bytes (Some (n, digits)) p rest read placed =
-    let (within, is) = cond_some _ _ _ placed in
-    let (some, below) = and_parts _ _ within in
-    let value : n ≡ p = ap (λ (q : ℕ × List ℕ). q.0) is in
-    let left : drop digits bytes ≡ rest = ap (λ (q : ℕ × List ℕ). q.1) is in
-    let low : 0 < n = ltb-true 0 n some in
-    let high : n < 4294967296 = ltb-true n 4294967296 below in
-    record {
-      text = (number_at-is bytes n digits read).is
-          ∙ ap₂ (λ k (left : List ℕ). decimal k ++ left) value left;
-      place = (omega arith, omega arith);
-    }
-
--- a place that is read stands behind a space
-place_at-is
-    : (behind : List ℕ) (p : ℕ) (rest : List ℕ)
-    → place_at behind ≡ Some (p, rest)
-    → (behind ≡ 32 ∷ (decimal p ++ rest)) × IsPlace p
-place_at-is [] p rest read = absurd (cc)
-place_at-is (byte ∷ bytes) p rest read =
-    let (space, placed) = Some-cond _ _ _ read in
-    let is = placed_by-is bytes (number_at bytes) p rest refl placed in
-    (ap₂ (λ (b : ℕ) text. b ∷ text) (eqb-true byte 32 space) is.text, is.place)
-
--- a place is read where no digit follows it
-place_at-decimal
-    : (p : ℕ) (rest : List ℕ)
-    → IsPlace p
-    → digits_in_front rest ≡ []
-    → place_at (32 ∷ (decimal p ++ rest)) ≡ Some (p, rest)
-place_at-decimal p rest place none =
-    let text = decimal p ++ rest in
-    let within = and_from _ _ (lt-ltb 0 p place.0) (lt-ltb p 4294967296 place.1) in
-    ap (placed_by text) (number_at-decimal p rest (omega arith) none)
-    ∙ rw within (ap (λ left. Some (p, left)) (drop-append_seam (decimal p) rest))
 
 -- ---- Steps ----
 

@@ -1,13 +1,8 @@
 -- Laws of the keyword of a line: it is read off the line's front, and tells of which kind the line is.
-use Rattle.std.proofs.Common.{◌≡◌, ℕ, suc, ◌+◌, Bool, true, false, not, cond, eqb, List, [], ◌∷◌, ◌++◌, length, take, drop, codes, decimal, Option, Some, None, refl, ap, ap₂, ◌∙◌, arith}
-use Rattle.std.specs.List.{list_all, position_or_len}
+use Rattle.std.proofs.Common.{◌≡◌, ℕ, Bool, true, false, cond, List, [], ◌∷◌, ◌++◌, codes, decimal, Option, Some, None, refl, ap, ap₂, ◌∙◌}
 use Rattle.std.specs.Str.{bytes_eq}
-use Rattle.std.proofs.lemmas.Bool.{and_parts, eqb-true}
-use Rattle.std.proofs.lemmas.List.{take-append-drop}
-use Rattle.std.proofs.lemmas.List.Folds.{length-prefix_len}
 use Rattle.std.proofs.lemmas.Option.{same_Some}
 use Rattle.std.proofs.lemmas.Slice.Eq.{bytes_eq-Decides}
-use Rattle.std.proofs.Math.Seq.{take-append_seam, drop-append_seam}
 use Rattle.trace_format.specs.declared.line.Keyword.{Keyword}
 use Rattle.trace_format.specs.declared.line.Keyword.TheVariants as words
 use Rattle.trace_format.specs.declared.line.Kind.{Kind}
@@ -15,81 +10,16 @@ use Rattle.trace_format.specs.declared.line.Kind.TheVariants as kinds
 use Rattle.trace_format.specs.declared.line.StepLine.TheVariants.{Handle, Commute, Swap, Delete, Insert}
 use Rattle.trace_format.specs.Said.{Said}
 use Rattle.trace_format.specs.Said as said
-use Rattle.trace_format.specs.TraceLines.{keyword_of, behind_keyword, keyword_by, kind_named, kind_by, kind_of, line_by, line_of, line_text}
-use Rattle.trace_format.specs.TraceText.{word_field, verdict_word}
+use Rattle.wb_base.specs.Fields.{keyword_of, IsBehind}
+use Rattle.wb_base.proofs.FieldLemmas.{no_space, keyword_of-append, behind_keyword-append}
+use Rattle.trace_format.specs.TraceLines.{keyword_by, kind_named, kind_by, kind_of, line_by, line_of, line_text}
+use Rattle.braid_word.specs.Notation.{word_field}
+use Rattle.trace_format.specs.TraceText.{verdict_word}
 use Rattle.ld_term.specs.StrictTexts.{strict_text}
-use Rattle.trace_format.proofs.FieldLemmas.{IsBehind, IsBehind-word_field, places_text, insertion_text}
+use Rattle.braid_word.proofs.FieldLemmas.{IsBehind-word_field}
+use Rattle.trace_format.proofs.FieldLemmas.{places_text, insertion_text}
 
 -- ---- Keywords ----
-
--- Whether a byte is a space.
-abbrev is_space : ℕ → Bool
-is_space byte = eqb byte 32
-
--- Whether some bytes have none.
-abbrev no_space : List ℕ → Bool
-no_space bytes = list_all (λ b. not (is_space b)) bytes
-
--- the keyword and what stands behind it are the line
-pub append-behind_keyword : (line : List ℕ) → keyword_of line ++ behind_keyword line ≡ line
-append-behind_keyword line =
-    ap (λ n. keyword_of line ++ drop n line) (length-prefix_len (λ b. not (is_space b)) line)
-    ∙ take-append-drop (position_or_len is_space line) line
-
--- behind the first space a space stands
-IsBehind-drop : (line : List ℕ) → IsBehind (drop (position_or_len is_space line) line)
-IsBehind-drop [] = tt
-IsBehind-drop (b ∷ line) = go (is_space b) refl (IsBehind-drop line)
-  where
-    go
-        : (space : Bool)
-        → is_space b ≡ space
-        → IsBehind (drop (position_or_len is_space line) line)
-        → IsBehind (drop (cond (not space) (1 + position_or_len is_space line) 0) (b ∷ line))
-    go true test behind = eqb-true b 32 test
-    go false test behind =
-        let next : 1 + position_or_len is_space line ≡ suc (position_or_len is_space line)
-        = omega arith in
-        rw next behind
-
--- nothing, or a space and more, stands behind the keyword
-pub IsBehind-behind_keyword : (line : List ℕ) → IsBehind (behind_keyword line)
-IsBehind-behind_keyword line =
-    rw (length-prefix_len (λ b. not (is_space b)) line) (IsBehind-drop line)
-
--- a keyword ends where a space stands behind it
-position_or_len-append
-    : (word rest : List ℕ)
-    → no_space word ≡ true
-    → IsBehind rest
-    → position_or_len is_space (word ++ rest) ≡ length word
-position_or_len-append [] [] none behind = refl
-position_or_len-append [] (b ∷ rest) none behind = rw behind refl
-position_or_len-append (b ∷ word) rest none behind =
-    let (first, others) = and_parts (not (is_space b)) (no_space word) none in
-    let more = position_or_len-append word rest others behind in
-    rw first (omega (arith, more))
-
--- the keyword of a line that begins with it
-keyword_of-append
-    : (word rest : List ℕ)
-    → no_space word ≡ true
-    → IsBehind rest
-    → keyword_of (word ++ rest) ≡ word
-keyword_of-append word rest none behind =
-    ap (λ n. take n (word ++ rest)) (position_or_len-append word rest none behind)
-    ∙ take-append_seam word rest
-
--- and what stands behind it
-behind_keyword-append
-    : (word rest : List ℕ)
-    → no_space word ≡ true
-    → IsBehind rest
-    → behind_keyword (word ++ rest) ≡ rest
-behind_keyword-append word rest none behind =
-    ap (λ (keyword : List ℕ). drop (length keyword) (word ++ rest))
-    (keyword_of-append word rest none behind)
-    ∙ drop-append_seam word rest
 
 -- The text of a keyword.
 abbrev pub keyword_text : Keyword → List ℕ

@@ -18,17 +18,20 @@ use Rattle.trace_format.specs.declared.line.Line.{Line}
 use Rattle.trace_format.specs.Said.{Said, said_by, IsNameless}
 use Rattle.trace_format.specs.Said as said
 use Rattle.trace_format.specs.declared.line.LineErr.{LineErr}
-use Rattle.trace_format.specs.TraceLines.{keyword_of, behind_keyword, keyword_by, field_word, field_term, place_at, only_place, two_places, place_and_letter, verdict_by, made_of, line_by, Reads, line_of, line_text, IsShortTerm, IsPlace, IsStepLine, IsLine}
-use Rattle.trace_format.specs.TraceText.{word_field, step_text, verdict_word}
+use Rattle.wb_base.specs.Fields.{keyword_of, behind_keyword, place_at, IsPlace, IsBehind}
+use Rattle.trace_format.specs.TraceLines.{strict_result, keyword_by, field_term, only_place, two_places, place_and_letter, verdict_by, made_of, line_by, Reads, line_of, line_text, IsShortTerm, IsStepLine, IsLine}
+use Rattle.trace_format.specs.TraceText.{step_text, verdict_word}
 use Rattle.ld_term.specs.Terms.{Term}
 use Rattle.ld_term.specs.StrictTexts.{strict_text}
 use Rattle.braid_word.specs.Words.{Letter}
-use Rattle.braid_word.specs.Notation.{IsReadable, letter_text, next_text, word_text}
+use Rattle.braid_word.specs.Notation.{IsReadable, letter_text, next_text, word_text, word_field, field_word}
 use Rattle.wb_base.proofs.PartLemmas.{Ok-cond, Ok-injective}
 use Rattle.braid_word.proofs.SpellingLemmas.{AllAbove, AllAbove-lower, decimal-above, word_text-above}
 use Rattle.trace_format.proofs.TermFieldLemmas.{field_term-is, field_term-strict_text, strict_text-above}
-use Rattle.trace_format.proofs.FieldLemmas.{IsBehind, field_word-is, field_word-word_field, IsBehind-word_field, made_of-Ok, places_text, insertion_text, word_text-one, only_place-is, only_place-decimal, two_places-is, two_places-places_text, place_and_letter-is, place_and_letter-insertion_text, verdict_by-is, verdict_by-verdict_word}
-use Rattle.trace_format.proofs.KeywordLaws.{append-behind_keyword, IsBehind-behind_keyword, keyword_text, keyword_by-is, line_of-append}
+use Rattle.braid_word.proofs.FieldLemmas.{field_word-is, field_word-word_field, IsBehind-word_field}
+use Rattle.trace_format.proofs.FieldLemmas.{strict_result-is, made_of-Ok, places_text, insertion_text, word_text-one, only_place-is, only_place-decimal, two_places-is, two_places-places_text, place_and_letter-is, place_and_letter-insertion_text, verdict_by-is, verdict_by-verdict_word}
+use Rattle.wb_base.proofs.FieldLemmas.{append-behind_keyword, IsBehind-behind_keyword}
+use Rattle.trace_format.proofs.KeywordLaws.{keyword_text, keyword_by-is, line_of-append}
 
 -- ---- What is read is spelled so ----
 
@@ -52,11 +55,11 @@ made_of-field_word
     → ((w : List Letter) → line_text (say w) ≡ word ++ word_field w)
     → ((w : List Letter) → IsReadable w → IsLine (say w))
     → IsBehind behind
-    → made_of say (field_word behind) ≡ Ok l
+    → made_of say (strict_result (field_word behind)) ≡ Ok l
     → IsText (word ++ behind) l
 made_of-field_word say word behind l text bounds spaced =
-    made_of-is say (field_word behind) (word ++ behind) l (λ w read.
-    let field = field_word-is behind w spaced read in
+    made_of-is say (strict_result (field_word behind)) (word ++ behind) l (λ w read.
+    let field = field_word-is behind w spaced (strict_result-is _ w read) in
     record {
       text = ap (λ more. word ++ more) field.text ∙ sym (text w);
       bounds = bounds w field.readable;
@@ -192,10 +195,10 @@ pub line_of-line_text : (l : Said) → IsLine l → line_of (line_text l) ≡ Ok
 line_of-line_text said.start is = line_of-append words.Start (codes " 1") refl
 line_of-line_text (said.left w) is =
     line_of-append words.Left (word_field w) (IsBehind-word_field w)
-    ∙ ap (made_of said.left) (field_word-word_field w is)
+    ∙ ap (λ read. made_of said.left (strict_result read)) (field_word-word_field w is)
 line_of-line_text (said.right w) is =
     line_of-append words.Right (word_field w) (IsBehind-word_field w)
-    ∙ ap (made_of said.right) (field_word-word_field w is)
+    ∙ ap (λ read. made_of said.right (strict_result read)) (field_word-word_field w is)
 line_of-line_text (said.left_term t) is =
     line_of-append words.LeftTerm (32 ∷ strict_text t) refl
     ∙ ap (made_of said.left_term) (field_term-strict_text 32 t is)
@@ -222,7 +225,7 @@ line_of-line_text (said.verdict v) is =
     ∙ ap (made_of said.verdict) (verdict_by-verdict_word v)
 line_of-line_text (said.witness w) is =
     line_of-append words.Witness (word_field w) (IsBehind-word_field w)
-    ∙ ap (made_of said.witness) (field_word-word_field w is)
+    ∙ ap (λ read. made_of said.witness (strict_result read)) (field_word-word_field w is)
 line_of-line_text said.finish is = line_of-append words.Finish [] tt
 
 -- ---- A text is one line ----

@@ -18,7 +18,7 @@ use Rattle.ld_term.proofs.StrictLemmas.{as_term-as_written, written_height-as_wr
 use Rattle.ld_term.proofs.StrictReadingLemmas.{strict_term_of-is, strict_term_of-strict_text}
 use Rattle.trace_format.specs.TraceLines.{IsShortTerm, short_term, field_term}
 use Rattle.trace_format.specs.declared.line.LineErr.TheVariants.{Long}
-use Rattle.trace_format.proofs.FieldLemmas.{IsBehind}
+use Rattle.wb_base.specs.Fields.{IsBehind}
 
 -- a term that isn't too large is read
 pub short_term-small : (t : Term) → IsShortTerm t → short_term (Some t) ≡ Ok t

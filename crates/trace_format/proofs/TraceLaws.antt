@@ -16,7 +16,8 @@ use Rattle.trace_format.specs.declared.verdict.Verdict.{Verdict}
 use Rattle.trace_format.specs.declared.line.StepLine.{StepLine}
 use Rattle.trace_format.specs.Said.{Said}
 use Rattle.trace_format.specs.Said as said
-use Rattle.trace_format.specs.TraceText.{Header, words, terms, Trace, word_field, step_line, verdict_word, head_text, tail_text, trace_text, term_trace_text}
+use Rattle.braid_word.specs.Notation.{word_field}
+use Rattle.trace_format.specs.TraceText.{Header, words, terms, Trace, step_line, verdict_word, head_text, tail_text, trace_text, term_trace_text}
 use Rattle.trace_format.specs.TraceLines.{line_of, line_text, IsStepLine, IsLine, IsHeader, IsTrace}
 use Rattle.trace_format.proofs.LineLaws.{line_of-line_text, line_text-no_lf}
 

@@ -1,10 +1,9 @@
 -- The lines of a trace file, each by itself.
 --
--- A line's keyword is what stands before its first space, or the whole line. It says of which kind the
--- line is, and the rest of the line has the grammar of that kind.
+-- A line's keyword, its first word, says of which kind the line is, and the rest of the line has the grammar of
+-- that kind.
 -- Source: this project's own.
 --
---   keyword_of line      its first word
 --   keyword_by word      the keyword that this is, if it is one
 --   kind_of line         the kind of line that it names
 --   line_of line         what the line says, or why it says nothing
@@ -14,13 +13,13 @@
 --   IsTrace t            t can be written and read: each of its lines can be said
 --   Gives result read    what a reader answered is what is read, unless memory ran out
 --   Reads result read    the same of what a line says
-use Rattle.std.specs.Prelude.{◌≡◌, ℕ, ◌+◌, ◌<◌, ◌≤◌, ◌&&◌, ◌||◌, ◌==◌, nat_lt, if◌then◌else◌, List, [], ◌∷◌, ◌++◌, length, drop, codes, Option, Some, None, Result, Ok, Err}
-use Rattle.std.specs.List.{before_first, AllByRecursion}
+use Rattle.std.specs.Prelude.{ℕ, ◌+◌, ◌≤◌, ◌||◌, ◌==◌, nat_lt, if◌then◌else◌, List, [], ◌∷◌, ◌++◌, length, codes, Option, Some, None, Result, Ok, Err}
+use Rattle.std.specs.List.{AllByRecursion}
 use Rattle.std.specs.Str.{bytes_eq}
 use Rattle.wb_base.specs.Memory.{UnlessMemory}
-use Rattle.wb_base.specs.Numbers.{number_at}
+use Rattle.wb_base.specs.Fields.{keyword_of, behind_keyword, place_at, IsPlace}
 use Rattle.braid_word.specs.Words.{Letter, IsOn}
-use Rattle.braid_word.specs.Notation.{strict_word_of, IsReadable}
+use Rattle.braid_word.specs.Notation.{strict_word_of, IsReadable, field_word, word_field}
 use Rattle.braid_word.specs.declared.TheConstants.{MAX_INDEX}
 use Rattle.braid_word.specs.declared.reader.WordErr.{WordErr}
 use Rattle.braid_word.specs.declared.reader.WordErr.TheVariants as word_errors
@@ -42,17 +41,9 @@ use Rattle.trace_format.specs.declared.line.LineErr.{LineErr}
 use Rattle.trace_format.specs.declared.line.LineErr.TheVariants.{Unknown, Form, Long, Memory}
 use Rattle.trace_format.specs.Said.{Said, said_by}
 use Rattle.trace_format.specs.Said as said
-use Rattle.trace_format.specs.TraceText.{Header, words as two_words, terms as two_terms, Trace, word_field, step_text, verdict_word}
+use Rattle.trace_format.specs.TraceText.{Header, words as two_words, terms as two_terms, Trace, step_text, verdict_word}
 
 -- ---- Keywords ----
-
--- What stands before the first space, or all: of `h 2 4` it is `h`.
-abbrev pub keyword_of : List ℕ → List ℕ
-keyword_of line = before_first (λ byte. byte == 32) line
-
--- What stands behind the keyword: nothing, or a space and what follows it.
-abbrev pub behind_keyword : List ℕ → List ℕ
-behind_keyword line = drop (length (keyword_of line)) line
 
 -- The keyword that a first word is. Each kind of step has its own.
 abbrev pub keyword_by : List ℕ → Option Keyword
@@ -98,7 +89,7 @@ kind_of line = kind_by (keyword_by (keyword_of line))
 
 -- ---- The rest of a line ----
 
--- A word in its strict spelling. A word of too many letters is long; any other fault is one of form. Want of
+-- A word behind its keyword. A word of too many letters is long; any other fault is one of form. Want of
 -- memory has a line here for completeness: a definition never answers it.
 abbrev pub strict_result : Result (List Letter) WordErr → Result (List Letter) LineErr
 strict_result (Ok w) = Ok w
@@ -106,12 +97,6 @@ strict_result (Err (word_errors.TooLong count)) = Err Long
 strict_result (Err (word_errors.BadLetter place)) = Err Form
 strict_result (Err (word_errors.BadIndex place)) = Err Form
 strict_result (Err word_errors.Memory) = Err Form
-
--- A word behind its keyword: nothing is the empty word, and a space is followed by a word that isn't.
-abbrev pub field_word : List ℕ → Result (List Letter) LineErr
-field_word [] = Ok []
-field_word (space ∷ []) = Err Form
-field_word (space ∷ (byte ∷ bytes)) = strict_result (strict_word_of (byte ∷ bytes))
 
 -- A term that isn't too large for a trace file: each index of its braid word can be read. A term has one leaf
 -- more than products.
@@ -129,17 +114,6 @@ short_term (Some t) =
 abbrev pub field_term : List ℕ → Result Term LineErr
 field_term [] = Err Form
 field_term (space ∷ bytes) = short_term (strict_term_of bytes)
-
--- A number in front from 1 to the greatest of 32 bits, and what follows it.
-abbrev pub placed_by : List ℕ → Option (ℕ × ℕ) → Option (ℕ × List ℕ)
-placed_by bytes None = None
-placed_by bytes (Some (value, digits)) =
-    if nat_lt 0 value && nat_lt value 4294967296 then Some (value, drop digits bytes) else None
-
--- A space and then a place, and what follows it: of ` 2 4` they are 2 and ` 4`.
-abbrev pub place_at : List ℕ → Option (ℕ × List ℕ)
-place_at [] = None
-place_at (byte ∷ bytes) = if byte == 32 then placed_by bytes (number_at bytes) else None
 
 -- What is made of a part that is read.
 abbrev pub made_of : {X Y : Type 0} → (X → Y) → Result X LineErr → Result Y LineErr
@@ -184,8 +158,8 @@ verdict_by rest =
 abbrev pub line_by : Option Keyword → List ℕ → Result Said LineErr
 line_by None rest = Err Unknown
 line_by (Some words.Start) rest = if bytes_eq rest (codes " 1") then Ok said.start else Err Form
-line_by (Some words.Left) rest = made_of said.left (field_word rest)
-line_by (Some words.Right) rest = made_of said.right (field_word rest)
+line_by (Some words.Left) rest = made_of said.left (strict_result (field_word rest))
+line_by (Some words.Right) rest = made_of said.right (strict_result (field_word rest))
 line_by (Some words.LeftTerm) rest = made_of said.left_term (field_term rest)
 line_by (Some words.RightTerm) rest = made_of said.right_term (field_term rest)
 line_by (Some words.Handle) rest = made_of said.step (two_places (place_at rest))
@@ -194,7 +168,7 @@ line_by (Some words.Swap) rest = made_of (λ p. said.step (Swap p)) (only_place 
 line_by (Some words.Delete) rest = made_of (λ p. said.step (Delete p)) (only_place (place_at rest))
 line_by (Some words.Insert) rest = made_of said.step (place_and_letter (place_at rest))
 line_by (Some words.Verdict) rest = made_of said.verdict (verdict_by rest)
-line_by (Some words.Witness) rest = made_of said.witness (field_word rest)
+line_by (Some words.Witness) rest = made_of said.witness (strict_result (field_word rest))
 line_by (Some words.Finish) rest = if length rest == 0 then Ok said.finish else Err Form
 
 -- What a line says, without its LF.
@@ -233,10 +207,6 @@ line_text (said.step s) = step_text s
 line_text (said.verdict v) = codes "verdict " ++ verdict_word v
 line_text (said.witness w) = codes "witness" ++ word_field w
 line_text said.finish = codes "end"
-
--- A place of a letter in a step, counted from 1.
-abbrev pub IsPlace : ℕ → Type 0
-IsPlace p = (0 < p) × (p < 4294967296)
 
 -- Each place of a step is one, and its letter can be read.
 abbrev pub IsStepLine : StepLine → Type 0

@@ -9,11 +9,11 @@
 --   trace_text t         its text
 --   TermTrace            what is written of two terms, which are given by their texts
 --   term_trace_text t    its text, which is that of a trace where these are strict texts
-use Rattle.std.specs.Prelude.{ℕ, List, [], ◌∷◌, ◌++◌, codes, decimal}
+use Rattle.std.specs.Prelude.{ℕ, List, ◌∷◌, ◌++◌, codes, decimal}
 use Rattle.std.specs.List.{flat_map}
 use Rattle.wb_base.specs.Lines.{line}
 use Rattle.braid_word.specs.Words.{Letter}
-use Rattle.braid_word.specs.Notation.{word_text, next_text}
+use Rattle.braid_word.specs.Notation.{next_text, word_field}
 use Rattle.ld_term.specs.Terms.{Term}
 use Rattle.ld_term.specs.StrictTexts.{strict_text}
 use Rattle.trace_format.specs.declared.line.StepLine.{StepLine}
@@ -41,11 +41,6 @@ pub record TermTrace : Type 0 where
   pub verdict : Verdict
   pub witness : List Letter
 
--- A word behind its keyword: nothing for the empty word, else a space and its strict spelling.
-abbrev pub word_field : List Letter → List ℕ
-word_field [] = []
-word_field (x ∷ w) = 32 ∷ word_text (x ∷ w)
-
 -- A step, by its places, counted from 1 in the word before it: `h 2 4` reduces a handle, `c 2` commutes two
 -- letters, `s 2` is the braid relation on three, `d 2` deletes two that are inverse to each other, and
 -- `i 2 -1` inserts a letter and its inverse.
@@ -63,6 +58,10 @@ step_line step = line (step_text step)
 -- The step that reduces the handle at a pair of places.
 abbrev pub handle_step : ℕ × ℕ → StepLine
 handle_step (p, q) = Handle p q
+
+-- Its line.
+abbrev pub handle_line : ℕ × ℕ → List ℕ
+handle_line places = step_line (handle_step places)
 
 -- A verdict, as it is written.
 abbrev pub verdict_word : Verdict → List ℕ

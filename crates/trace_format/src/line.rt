@@ -1,18 +1,19 @@
 // The lines of a trace file, each by itself.
-ghost use Rattle.std.specs.Prelude.{◌≡◌, ◌≤◌, ◌==◌, Some, None, MatchOption, Ok, IfOk};
-ghost use Rattle.std.specs.List.{position};
+ghost use Rattle.std.specs.Prelude.{◌≡◌, ◌≤◌, Ok, IfOk};
 ghost use Rattle.std.specs.Bool.{Decides};
 ghost use Rattle.ld_term.specs.Written.{written_height, HasNoName};
 ghost use Rattle.ld_term.specs.TreeTexts.{written};
-ghost use Rattle.trace_format.specs.TraceLines.{Gives, Reads, ReadsTerm, keyword_of, behind_keyword, keyword_by, kind_named, kind_of, field_word, field_term, place_at, only_place, two_places, only_letter, place_and_letter, verdict_by, line_of, line_text, IsLine};
+ghost use Rattle.wb_base.specs.Fields.{place_at};
+ghost use Rattle.braid_word.specs.Notation.{field_word};
+ghost use Rattle.trace_format.specs.TraceLines.{Gives, Reads, ReadsTerm, strict_result, keyword_by, kind_named, kind_of, field_term, only_place, two_places, only_letter, place_and_letter, verdict_by, line_of, line_text, IsLine};
 ghost use Rattle.trace_format.specs.Said.{Said as Says, said_by, IsNameless};
 
 use crate::verdict::Verdict;
-use braid_word::{Letter, MAX_INDEX, Word, WordErr, read_strict_word};
+use braid_word::{Letter, MAX_INDEX, Word, WordErr, read_strict_word, read_word_field};
 use ld_term::{TermErr, Tree, read_strict};
 use std::alloc::Global;
 use thiserror::Error;
-use wb_base::read_number;
+use wb_base::{read_place, split_keyword};
 
 /// A step of a trace file, with places counted from 1 in the word before it.
 #[derive(Clone, Copy, Debug, PartialEq, Eq)]
@@ -124,22 +125,6 @@ pub enum LineErr {
     Memory,
 }
 
-// Where the first space stands.
-fn first_space(line: &[u8]) -> Option<usize>
-    ensures { result ≡ position (λ byte. byte == 32) line.now }
-{
-    line.iter().position(|byte| *byte == b' ')
-}
-
-// A line's keyword, which ends at its first space, and what stands behind it: nothing, or a space and
-// what follows it.
-fn split_keyword(line: &[u8]) -> (&[u8], &[u8])
-    ensures keyword { result.0.now ≡ keyword_of line.now }
-    ensures behind { result.1.now ≡ behind_keyword line.now }
-{
-    line.split_at(first_space(line).unwrap_or(line.len()))
-}
-
 // The keyword that the first word of a line is.
 fn keyword_by(word: &[u8]) -> Option<Keyword>
     ensures { result ≡ keyword_by word.now }
@@ -204,19 +189,15 @@ pub fn kind_of(line: &[u8]) -> Option<Kind>
     Some(kind_named(keyword_by(word)?))
 }
 
-// The word behind a keyword: nothing is the empty word, and a space is followed by a word that isn't.
+// The word behind a keyword.
 fn read_field(alloc: Global, behind: &[u8]) -> Result<Word, LineErr>
-    ensures { Gives result (field_word behind.now) }
+    ensures { Gives result (strict_result (field_word behind.now)) }
 {
-    match behind {
-        [] => Ok(Word::new(alloc)),
-        [_] => Err(LineErr::Form),
-        [_, bytes @ ..] => match read_strict_word(alloc, bytes) {
-            Ok(word) => Ok(word),
-            Err(WordErr::TooLong { .. }) => Err(LineErr::Long),
-            Err(WordErr::Memory) => Err(LineErr::Memory),
-            Err(WordErr::BadLetter { .. } | WordErr::BadIndex { .. }) => Err(LineErr::Form),
-        },
+    match read_word_field(alloc, behind) {
+        Ok(word) => Ok(word),
+        Err(WordErr::TooLong { .. }) => Err(LineErr::Long),
+        Err(WordErr::Memory) => Err(LineErr::Memory),
+        Err(WordErr::BadLetter { .. } | WordErr::BadIndex { .. }) => Err(LineErr::Form),
     }
 }
 
@@ -251,21 +232,6 @@ fn read_term_field(alloc: Global, behind: &[u8]) -> Result<Tree, LineErr>
         Err(TermErr::TooDeep { .. } | TermErr::TooMany { .. }) => Err(LineErr::Long),
         Err(TermErr::Form { .. }) => Err(LineErr::Form),
         Err(TermErr::Memory) => Err(LineErr::Memory),
-    }
-}
-
-// The place behind a space, and what follows it.
-fn read_place(bytes: &[u8]) -> Option<(u32, &[u8])>
-    ensures { MatchOption result (place_at bytes.now ≡ None) (λ x. place_at bytes.now ≡ Some (x.0, x.1.now)) }
-{
-    let [b' ', bytes @ ..] = bytes else {
-        return None;
-    };
-    let (value, digits) = read_number(bytes)?;
-    if 0 < value && value <= u64::from(u32::MAX) {
-        Some((value as u32, &bytes[digits..]))
-    } else {
-        None
     }
 }
 

@@ -1,23 +1,63 @@
-ghost use Rattle.std.specs.Prelude.{◌≡◌, ◌+◌, ◌≤◌, ◌++◌, codes, length, map};
+ghost use Rattle.std.specs.Prelude.{◌≡◌, ◌+◌, ◌^◌, ◌<◌, ◌≤◌, ◌++◌, codes, length, map, take, drop};
 ghost use Rattle.std.specs.List.{flat_map};
 ghost use Rattle.wb_base.specs.Streams.{HasCause, Puts};
 ghost use Rattle.wb_base.specs.Lines.{line};
-ghost use Rattle.trace_format.specs.TraceText.{words, word_field, step_line, handle_step, verdict_word, head_text, term_head_text, tail_text, trace_text, term_trace_text};
+ghost use Rattle.braid_word.specs.Notation.{next_text, word_field};
+ghost use Rattle.braid_word.specs.declared.TheConstants.{LETTERS_AT_ONCE};
+ghost use Rattle.wb_base.specs.declared.TheConstants.{MAX_CHUNK};
+ghost use Rattle.trace_format.specs.declared.TheConstants.{STEPS_AT_ONCE};
+ghost use Rattle.trace_format.specs.TraceText.{words, step_line, handle_step, handle_line, verdict_word, head_text, term_head_text, tail_text, trace_text, term_trace_text};
 
-use crate::text::{put_term_line, put_word_line};
+use crate::STEPS_AT_ONCE;
 use crate::verdict::Verdict;
-use braid_word::{Account, Letter, put_next_letter};
-use wb_base::{Failed, Sink, give_all, put_line, put_numbered, put_numbered_line};
+use braid_word::{Account, LETTERS_AT_ONCE, Letter, push_next_letter, put_word_line};
+use wb_base::{Chunk, Failed, Sink, give_all, put_line};
 
-// Gives the line of a step on the handle at two places, counted from 1.
-fn put_step<K: Sink>(sink: &mut K, step: (u32, u32)) -> Result<(), Failed>
-    ensures took { Puts (K.taken sink.old) (K.taken sink.new) result (step_line (handle_step step)) }
+// Gives a keyword, with the space behind it, and the text of a term as a line.
+fn put_term_line<K: Sink>(sink: &mut K, keyword: &[u8], term: &[u8]) -> Result<(), Failed>
+    ensures took { Puts (K.taken sink.old) (K.taken sink.new) result (line (keyword.now ++ term.now)) }
     ensures cause { HasCause (K.faults sink.old) (K.faults sink.new) result }
-    ensures waits { K.waiting sink.new ≤ K.waiting sink.old + length (step_line (handle_step step)) }
+    ensures waits { K.waiting sink.new ≤ K.waiting sink.old + length (line (keyword.now ++ term.now)) }
+{
+    give_all(sink, keyword)?;
+    put_line(sink, term)
+}
+
+// Adds the line of a step on the handle at two places, counted from 1, to a chunk: at most 44 bytes.
+fn push_step(text: &mut Chunk, step: (u32, u32))
+    requires room { length text.old + 44 ≤ MAX_CHUNK }
+    ensures text { text.new ≡ text.old ++ step_line (handle_step step) }
+    ensures size { length text.new ≤ length text.old + 44 }
 {
     let (start, end) = step;
-    put_numbered(sink, b"h ", u64::from(start))?;
-    put_numbered_line(sink, b" ", u64::from(end))
+    text.push(b"h ");
+    text.push_number(u64::from(start));
+    text.push(b" ");
+    text.push_number(u64::from(end));
+    text.push(b"\n");
+}
+
+// Gives the lines of a few steps of an account at once.
+fn put_some_steps<K: Sink, A: Account>(
+    sink: &mut K,
+    account: &A,
+    from: u32,
+    count: u32,
+) -> Result<(), Failed>
+    requires few { count ≤ STEPS_AT_ONCE }
+    requires within { from + count ≤ length (A.steps account.now) }
+    requires fits { from + count < 2 ^ 32 }
+    ensures took { Puts (K.taken sink.old) (K.taken sink.new) result
+        (flat_map handle_line (take count (drop from (A.steps account.now)))) }
+    ensures cause { HasCause (K.faults sink.old) (K.faults sink.new) result }
+    ensures waits { K.waiting sink.new ≤ K.waiting sink.old
+        + length (flat_map handle_line (take count (drop from (A.steps account.now)))) }
+{
+    let mut text = Chunk::new();
+    for k in 0..count {
+        push_step(&mut text, account.step_at(from + k));
+    }
+    give_all(sink, text.bytes())
 }
 
 // Gives the lines of all steps of an account.
@@ -28,10 +68,36 @@ fn put_steps<K: Sink, A: Account>(sink: &mut K, account: &A) -> Result<(), Faile
     ensures waits { K.waiting sink.new ≤ K.waiting sink.old
         + length (flat_map step_line (map handle_step (A.steps account.now))) }
 {
-    for k in 0..account.steps_done() {
-        put_step(sink, account.step_at(k))?;
+    let mut put = 0;
+    'putting: while put < account.steps_done() {
+        let count = (account.steps_done() - put).min(STEPS_AT_ONCE);
+        put_some_steps(sink, account, put, count)?;
+        put += count;
     }
     Ok(())
+}
+
+// Gives a few letters of the word that an account has reached, each behind a space, at once.
+fn put_some_letters<K: Sink, A: Account>(
+    sink: &mut K,
+    account: &A,
+    from: u32,
+    count: u32,
+) -> Result<(), Failed>
+    requires few { count ≤ LETTERS_AT_ONCE }
+    requires within { from + count ≤ length (A.current account.now) }
+    requires fits { from + count < 2 ^ 32 }
+    ensures took { Puts (K.taken sink.old) (K.taken sink.new) result
+        (flat_map next_text (take count (drop from (A.current account.now)))) }
+    ensures cause { HasCause (K.faults sink.old) (K.faults sink.new) result }
+    ensures waits { K.waiting sink.new ≤ K.waiting sink.old
+        + length (flat_map next_text (take count (drop from (A.current account.now)))) }
+{
+    let mut text = Chunk::new();
+    for k in 0..count {
+        push_next_letter(&mut text, account.current_at(from + k));
+    }
+    give_all(sink, text.bytes())
 }
 
 // Gives the letters of the word that an account has reached, each behind a space.
@@ -40,8 +106,11 @@ fn put_current<K: Sink, A: Account>(sink: &mut K, account: &A) -> Result<(), Fai
     ensures cause { HasCause (K.faults sink.old) (K.faults sink.new) result }
     ensures waits { K.waiting sink.new ≤ K.waiting sink.old + length (word_field (A.current account.now)) }
 {
-    for k in 0..account.current_len() {
-        put_next_letter(sink, account.current_at(k))?;
+    let mut put = 0;
+    'putting: while put < account.current_len() {
+        let count = (account.current_len() - put).min(LETTERS_AT_ONCE as u32);
+        put_some_letters(sink, account, put, count)?;
+        put += count;
     }
     Ok(())
 }

@@ -4,6 +4,7 @@ pub mod WaitingLemmas
 pub mod MemoryLemmas
 pub mod JoinLemmas
 pub mod NumberLemmas
+pub mod FieldLemmas
 pub mod LineLemmas
 pub mod WriterLemmas
 pub mod NameLemmas

@@ -1,9 +1,9 @@
 -- Laws of bytes that are told.
 use Rattle.std.proofs.Common.{◌≡◌, ℕ, ◌+◌, ◌-◌, ◌<◌, ◌≤◌, List, [], ◌∷◌, ◌++◌, length, get_or, take, drop, Option, Some, None, Result, refl, ap, sym, ◌∙◌, append_assoc, arith}
-use Rattle.std.proofs.lemmas.List.{append-nil, drop_more, take_more, length-append, length-take, length-drop, take-append-drop, take_rest}
+use Rattle.std.proofs.lemmas.List.{append-nil, drop_more, take_more, length-append, length-take, length-drop, take-append-drop, take_rest, get_or-drop}
 use Rattle.std.proofs.lemmas.Grind.{flat_map-append}
 use Rattle.std.proofs.Math.Seq.{take-add}
-use Rattle.std.proofs.lemmas.Option.{slice_get_within, get_or_from_slice_get}
+use Rattle.std.proofs.lemmas.Option.{slice_get_within, get_or_from_slice_get, slice_get_read}
 use Rattle.std.specs.List.{flat_map, slice_get}
 use Rattle.std.proofs.lemmas.Result.{MatchResult-from_err, MatchResult-weaker}
 use Rattle.std.specs.Result.{IsErr}
@@ -222,3 +222,59 @@ pub Puts-stopped_after
     → Puts old new result text
 Puts-stopped_after old mid new result text a b rest parts failed put front =
     Puts-stopped old new result text (a ++ b) rest parts failed (PutsFront-more old mid new a b put front)
+
+-- ---- A list in parts ----
+
+-- the texts of a part of a list and of the element behind it
+pub flat_map-part_more
+    : {X : Type 0} (text_of : X → List ℕ) (xs : List X) (k n : ℕ) (x : X)
+    → slice_get xs (k + n) ≡ Some x
+    → flat_map text_of (take (n + 1) (drop k xs)) ≡ flat_map text_of (take n (drop k xs)) ++ text_of x
+flat_map-part_more text_of xs k n x found =
+    flat_map-take_more text_of (drop k xs) n x
+    (slice_get_read (drop k xs) (length (drop k xs)) n x refl
+    (omega (arith, length-drop k xs, slice_get_within xs (k + n) x found))
+    (sym (get_or-drop k xs n x ∙ get_or_from_slice_get xs (k + n) x x found)))
+
+-- the texts of the elements before a place, and of a part that begins there
+pub flat_map-take_part
+    : {X : Type 0} (text_of : X → List ℕ) (xs : List X) (k n : ℕ)
+    → flat_map text_of (take (k + n) xs)
+    ≡ flat_map text_of (take k xs) ++ flat_map text_of (take n (drop k xs))
+flat_map-take_part text_of xs k n =
+    ap (flat_map text_of) (take-add k n xs)
+    ∙ flat_map-append text_of (take k xs) (take n (drop k xs))
+
+-- a text of a list, cut before and behind a part
+pub flat_map-split_part
+    : {X : Type 0} (text_of : X → List ℕ) (xs : List X) (k n : ℕ)
+    → flat_map text_of xs
+    ≡ (flat_map text_of (take k xs) ++ flat_map text_of (take n (drop k xs)))
+    ++ flat_map text_of (drop (k + n) xs)
+flat_map-split_part text_of xs k n =
+    ap (flat_map text_of) (sym (take-append-drop (k + n) xs))
+    ∙ flat_map-append text_of (take (k + n) xs) (drop (k + n) xs)
+    ∙ ap (λ front. front ++ flat_map text_of (drop (k + n) xs)) (flat_map-take_part text_of xs k n)
+
+-- the text of a loop over a list, by parts, that stopped at one of these
+pub Puts-stopped_part
+    : {X T E : Type 0} (old mid new : Option (List ℕ)) (result : Result T E) (text_of : X → List ℕ)
+    (xs : List X) (k n : ℕ)
+    → IsErr result
+    → mid ≡ append_known old (flat_map text_of (take k xs))
+    → PutsFront mid new (flat_map text_of (take n (drop k xs)))
+    → Puts old new result (flat_map text_of xs)
+Puts-stopped_part old mid new result text_of xs k n failed put front =
+    Puts-stopped_after old mid new result _ (flat_map text_of (take k xs))
+    (flat_map text_of (take n (drop k xs))) (flat_map text_of (drop (k + n) xs))
+    (flat_map-split_part text_of xs k n) failed put front
+
+-- the texts of one part more of a list
+pub append_known-part
+    : {X : Type 0} (old mid new : Option (List ℕ)) (text_of : X → List ℕ) (xs : List X) (k n : ℕ)
+    → mid ≡ append_known old (flat_map text_of (take k xs))
+    → new ≡ append_known mid (flat_map text_of (take n (drop k xs)))
+    → new ≡ append_known old (flat_map text_of (take (k + n) xs))
+append_known-part old mid new text_of xs k n put more =
+    append_known-two old mid new _ _ put more
+    ∙ ap (append_known old) (sym (flat_map-take_part text_of xs k n))

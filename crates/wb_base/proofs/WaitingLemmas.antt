@@ -5,7 +5,7 @@ use Rattle.std.proofs.Common.{◌≡◌, ℕ, ◌+◌, ◌<◌, ◌≤◌, List,
 use Rattle.std.proofs.lemmas.List.{length-append}
 use Rattle.std.proofs.lemmas.Option.{slice_get_within, get_or_from_slice_get}
 use Rattle.std.specs.List.{flat_map, slice_get}
-use Rattle.wb_base.proofs.StreamLemmas.{flat_map-split, flat_map-take_more}
+use Rattle.wb_base.proofs.StreamLemmas.{flat_map-split, flat_map-take_more, flat_map-take_part, flat_map-split_part}
 
 -- a front of a text was put
 pub waits-stopped
@@ -69,3 +69,24 @@ pub waits-get
 waits-get old mid new text_of xs i x found put more =
     waits-more old mid new _ (flat_map text_of (take i xs)) (text_of x)
     (flat_map-take_more text_of xs i x found) put more
+
+-- a loop over a list, by parts, stopped at one of these
+pub waits-stopped_part
+    : {X : Type 0} (old mid new : ℕ) (text_of : X → List ℕ) (xs : List X) (k n : ℕ)
+    → mid ≤ old + length (flat_map text_of (take k xs))
+    → new ≤ mid + length (flat_map text_of (take n (drop k xs)))
+    → new ≤ old + length (flat_map text_of xs)
+waits-stopped_part old mid new text_of xs k n put more =
+    waits-stopped_after old mid new _ (flat_map text_of (take k xs))
+    (flat_map text_of (take n (drop k xs))) (flat_map text_of (drop (k + n) xs))
+    (flat_map-split_part text_of xs k n) put more
+
+-- one part more of a list was put
+pub waits-part
+    : {X : Type 0} (old mid new : ℕ) (text_of : X → List ℕ) (xs : List X) (k n : ℕ)
+    → mid ≤ old + length (flat_map text_of (take k xs))
+    → new ≤ mid + length (flat_map text_of (take n (drop k xs)))
+    → new ≤ old + length (flat_map text_of (take (k + n) xs))
+waits-part old mid new text_of xs k n put more =
+    waits-more old mid new _ (flat_map text_of (take k xs)) (flat_map text_of (take n (drop k xs)))
+    (flat_map-take_part text_of xs k n) put more

@@ -1,6 +1,7 @@
 pub mod Streams
 pub mod Reading
 pub mod Numbers
+pub mod Fields
 pub mod Lines
 pub mod StreamStates
 pub mod SinkRoom

@@ -3,7 +3,8 @@ ghost use Rattle.std.specs.Prelude.{◌≡◌, ◌<◌, ◌↔◌, IsTrue};
 
 use crate::{
     MemSink, MemSource, Name, ReadErr, Sink, Status, StdSink, StdSource, Steps, SureSource,
-    count_lines, give_all, is_canonical, lines, put_number, read_all, read_number, read_within,
+    count_lines, give_all, is_canonical, lines, put_number, read_all, read_number, read_place,
+    read_within, split_keyword,
 };
 use std::alloc::{AllocError, Global};
 use std::io::{Error, ErrorKind, Read, Result as IoResult, Write};
@@ -50,6 +51,30 @@ fn a_number_is_put_as_its_decimal_text(rt: HostRuntime) -> Result<(), Fail> {
         assert_eq!(rt; sink.bytes(), want, "at {value}");
     }
     Ok(())
+}
+
+#[test]
+fn a_line_has_a_keyword_and_places_behind_it(rt: HostRuntime) {
+    let lines: [(&[u8], (&[u8], &[u8])); 4] = [
+        (b"h 2 4", (b"h", b" 2 4")),
+        (b"end", (b"end", b"")),
+        (b" h", (b"", b" h")),
+        (b"", (b"", b"")),
+    ];
+    for (line, want) in lines {
+        assert_eq!(rt; split_keyword(line), want, "the line {line:?}");
+    }
+    let places: [(&[u8], Option<(u32, &[u8])>); 6] = [
+        (b" 2 4", Some((2, b" 4"))),
+        (b" 4294967295", Some((u32::MAX, b""))),
+        (b" 4294967296", None),
+        (b" 0", None),
+        (b" 02", None),
+        (b"2", None),
+    ];
+    for (bytes, want) in places {
+        assert_eq!(rt; read_place(bytes), want, "at {bytes:?}");
+    }
 }
 
 #[test]

@@ -4,8 +4,10 @@ use Rattle.std.specs.List.{AllByRecursion}
 use Rattle.wb_base.specs.Lines.{line}
 use Rattle.handle_reduce.specs.declared.TheConstants.{MAX_BOUND}
 use Rattle.trace_format.specs.Said as said
-use Rattle.trace_format.specs.TraceText.{Header, Trace, word_field, step_text, step_line, handle_step, verdict_word, head_text, tail_text, trace_text}
-use Rattle.trace_format.specs.TraceLines.{line_text, IsPlace, IsStepLine, IsHeader, IsTrace}
+use Rattle.braid_word.specs.Notation.{word_field}
+use Rattle.trace_format.specs.TraceText.{Header, Trace, step_text, step_line, handle_step, verdict_word, head_text, tail_text, trace_text}
+use Rattle.wb_base.specs.Fields.{IsPlace}
+use Rattle.trace_format.specs.TraceLines.{line_text, IsStepLine, IsHeader, IsTrace}
 use Rattle.trace_format.proofs.TraceLaws.{left_line, right_line, head_text-lines, IsLine-left_line, IsLine-right_line}
 use Rattle.trace_check.specs.declared.TheConstants.{MAX_LINE}
 use Rattle.trace_check.proofs.LineLengths.{length-place, length-line_text}

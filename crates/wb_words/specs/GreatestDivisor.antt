@@ -15,7 +15,7 @@ use Rattle.wb_base.specs.Status.{Answer, answer}
 use Rattle.wb_base.specs.declared.status.Status.TheVariants.{Done}
 use Rattle.braid_word.specs.Words.{Letter, IsOn, IsPositiveWord}
 use Rattle.braid_word.specs.Equivalence.{EquivalentOn}
-use Rattle.trace_format.specs.TraceText.{word_field}
+use Rattle.braid_word.specs.Notation.{word_field}
 use Rattle.braid_gcd.specs.NormalWords.{IsAnswerOf}
 use Rattle.braid_gcd.specs.NormalWords as divisions
 use Rattle.braid_gcd.specs.Faults.{length_fault}

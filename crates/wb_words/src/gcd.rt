@@ -9,10 +9,9 @@ ghost use Rattle.wb_command.specs.declared.TheConstants.{MAX_STRANDS};
 ghost use Rattle.wb_words.specs.GreatestDivisor.{IsDividedOr, division_answer, division_text, gcd_meaning, gcd_of};
 
 use braid_gcd::{CommonDivisor, GcdErr, MAX_DIVIDED, gcd};
-use braid_word::Letter;
+use braid_word::{Letter, put_word_line};
 use std::alloc::{AllocError, Global};
 use std::marker::Model;
-use trace_format::put_word_line;
 use wb_base::{Failed, Sink, Status};
 use wb_command::{
     Args, Comes, InputErr, MAX_STRANDS, Refusal, Task, Written, read_two_positive_words,

@@ -12,7 +12,7 @@ returns-in_err-put_letter-in-len1-up-clause-took g c =
 pub returns-in_ok-put_letter-in-len1-up-clause-took : goal.returns-in_ok-put_letter-in-len1-up-clause-took
 returns-in_ok-put_letter-in-len1-up-clause-took g c =
     Puts-more _ _ _ _ _ _ _ (word_text-first _ _ c.in-len1-up.len_at_least c.first-item.is)
-    c.in_ok-put_letter-in-len1-up.ensures.took c.put_rest.ensures.took
+    c.in_ok-put_letter-in-len1-up.ensures.took c.put_letters.ensures.took
 
 pub returns-in-empty-clause-took : goal.returns-in-empty-clause-took
 returns-in-empty-clause-took g c = rw (word_text-empty _ c.in-empty.len_below) (sym (append_known-nil _))
@@ -27,4 +27,4 @@ pub returns-in_ok-put_letter-in-len1-up-clause-waits :
     goal.returns-in_ok-put_letter-in-len1-up-clause-waits
 returns-in_ok-put_letter-in-len1-up-clause-waits g c =
     waits-more _ _ _ _ _ _ (word_text-first _ _ c.in-len1-up.len_at_least c.first-item.is)
-    c.in_ok-put_letter-in-len1-up.ensures.waits c.put_rest.ensures.waits
+    c.in_ok-put_letter-in-len1-up.ensures.waits c.put_letters.ensures.waits

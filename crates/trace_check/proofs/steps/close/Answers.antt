@@ -1,7 +1,7 @@
 use Rattle.std.proofs.Common.{rules, refl, ap, arith}
 use Rattle.braid_word.specs.Words.{Letter}
 use Rattle.trace_check.proofs.ReductionLemmas.{reduct-removed, reduct-taken_back, room-taken_back, IsPresent-removed}
-use Rattle.trace_check.proofs.KnownLemmas.{IsKnown-removed}
+use Rattle.trace_check.proofs.KnownLemmas.{IsKnown-closed}
 use Rattle.trace_check.proofs.steps.close.Goals as goal
 
 pub take_back-requires-clause-room : goal.take_back-requires-clause-room
@@ -27,6 +27,7 @@ returns-clause-reduct c =
 
 pub returns-then-raised-eq0-clause-known : goal.returns-then-raised-eq0-clause-known
 returns-then-raised-eq0-clause-known c =
-    IsKnown-removed _ _ _ _ _ _ _ _ c.requires.handle c.letter_at-first.ensures c.in-Some.ensures.item
-    c.requires.raised c.if-raised-eq0.true c.remove_left.ensures c.left_len.ensures.value _ refl refl
-    (omega (arith, ap (λ (x : Letter). x.index) c.first.view_is))
+    IsKnown-closed _ _ _ _ _ _ _ _ c.requires.handle c.letter_at-first.ensures c.in-Some.ensures.item
+    c.requires.raised c.if-raised-eq0.true c.remove_left.ensures c.left_len-end.ensures.value _ _ _ _ _
+    c.without.ensures c.without-then-raised-eq0.ensures c.with.ensures refl refl
+    (omega (arith, ap (λ (x : Letter). x.index) c.first.view_is)) c.requires.known

@@ -22,6 +22,10 @@ returns-then-left_len-right_len-gt-MAX_LETTERS-clause-word c =
     (ap₂ (λ m n. m + n) c.left_len.ensures.value c.right_len.ensures.value))
     c.if-left_len-right_len-gt-MAX_LETTERS.true
 
+pub close-requires-clause-known : goal.close-requires-clause-known
+close-requires-clause-known c =
+    IsKnown-moved c.args.word.now c.go_to.new.word c.args.known _ c.go_to.ensures c.requires.known
+
 pub close-requires-clause-short : goal.close-requires-clause-short
 close-requires-clause-short c =
     let (handle, count) = c.in-Some.ensures in

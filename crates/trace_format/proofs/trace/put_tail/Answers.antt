@@ -2,7 +2,8 @@ use Rattle.std.proofs.Common.{◌++◌, codes, append_assoc, refl}
 use Rattle.wb_base.proofs.StreamLemmas.{Puts-stopped, Puts-stopped_after, Puts-more, append_known-two}
 use Rattle.wb_base.proofs.WaitingLemmas.{waits-stopped, waits-more, waits-stopped_after}
 use Rattle.wb_base.specs.Lines.{line}
-use Rattle.trace_format.specs.TraceText.{word_field, verdict_word}
+use Rattle.braid_word.specs.Notation.{word_field}
+use Rattle.trace_format.specs.TraceText.{verdict_word}
 use Rattle.trace_format.proofs.trace.put_tail.Goals as goal
 
 pub returns-in_err-put_verdict-clause-took : goal.returns-in_err-put_verdict-clause-took

@@ -1,7 +1,7 @@
 use Rattle.std.proofs.Common.{[], ◌∷◌, ◌++◌, codes, refl}
 use Rattle.wb_base.proofs.StreamLemmas.{Puts-stopped, Puts-stopped_after, Puts-more, append_known-two}
 use Rattle.wb_base.proofs.WaitingLemmas.{waits-stopped, waits-more, waits-stopped_after}
-use Rattle.trace_format.specs.TraceText.{word_field}
+use Rattle.braid_word.specs.Notation.{word_field}
 use Rattle.trace_format.proofs.trace.put_witness.Goals as goal
 
 pub returns-in_err-give_all-clause-took : goal.returns-in_err-give_all-clause-took

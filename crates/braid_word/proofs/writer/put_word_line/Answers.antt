@@ -1,8 +1,8 @@
 use Rattle.std.proofs.Common.{[], ◌∷◌, append_assoc, refl}
 use Rattle.wb_base.proofs.StreamLemmas.{Puts-stopped, Puts-stopped_after, Puts-more, append_known-two}
 use Rattle.wb_base.proofs.WaitingLemmas.{waits-stopped, waits-more, waits-stopped_after}
-use Rattle.trace_format.specs.TraceText.{word_field}
-use Rattle.trace_format.proofs.text.put_word_line.Goals as goal
+use Rattle.braid_word.specs.Notation.{word_field}
+use Rattle.braid_word.proofs.writer.put_word_line.Goals as goal
 
 pub returns-in_err-give_all-clause-took : goal.returns-in_err-give_all-clause-took
 returns-in_err-give_all-clause-took g c =

@@ -1,8 +1,8 @@
 use Rattle.std.proofs.Common.{[], ◌∷◌, sym, arith}
 use Rattle.wb_base.proofs.StreamLemmas.{Puts-stopped, Puts-more, append_known-nil}
 use Rattle.wb_base.proofs.WaitingLemmas.{waits-stopped, waits-more}
-use Rattle.trace_format.proofs.TraceLemmas.{word_field-some, word_field-none}
-use Rattle.trace_format.proofs.text.put_word_field.Goals as goal
+use Rattle.braid_word.proofs.FieldLemmas.{word_field-some, word_field-none}
+use Rattle.braid_word.proofs.writer.put_word_field.Goals as goal
 
 pub returns-in-empty-clause-took : goal.returns-in-empty-clause-took
 returns-in-empty-clause-took g c =

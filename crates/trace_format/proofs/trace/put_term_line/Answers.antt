@@ -2,7 +2,7 @@ use Rattle.std.proofs.Common.{[], ◌∷◌, append_assoc}
 use Rattle.wb_base.proofs.StreamLemmas.{Puts-stopped, Puts-more}
 use Rattle.wb_base.proofs.WaitingLemmas.{waits-stopped, waits-more}
 use Rattle.wb_base.specs.Lines.{line}
-use Rattle.trace_format.proofs.text.put_term_line.Goals as goal
+use Rattle.trace_format.proofs.trace.put_term_line.Goals as goal
 
 pub returns-in_err-give_all-clause-took : goal.returns-in_err-give_all-clause-took
 returns-in_err-give_all-clause-took g c =
