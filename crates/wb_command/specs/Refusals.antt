@@ -6,8 +6,9 @@
 --   height_met, nodes_met, index_met   a term is too high, a graph too large, an index too great
 --   length_needed L k                  a braid word of k letters may have L
 --   refusal_answer refusal             the answer that a refusal is
+--   refused_line k why                 the line of a file that isn't accepted, as `refused 4 step`
 --   comes_answer answer_of outcome     the answer that an outcome is: a refusal, or what `answer_of` says
-use Rattle.std.specs.Prelude.{ℕ, ◌++◌, codes, decimal}
+use Rattle.std.specs.Prelude.{ℕ, List, ◌∷◌, ◌++◌, codes, decimal}
 use Rattle.wb_base.specs.Lines.{line}
 use Rattle.wb_base.specs.Status.{Answer, answer}
 use Rattle.wb_base.specs.declared.status.Status.TheVariants.{Limit}
@@ -16,7 +17,7 @@ use Rattle.braid_word.specs.declared.TheConstants.{MAX_INDEX}
 use Rattle.ld_term.specs.declared.TheConstants.{MAX_HEIGHT}
 use Rattle.term_graph.specs.declared.TheConstants.{MAX_NODES}
 use Rattle.wb_command.specs.declared.refusal.Refusal.{Refusal}
-use Rattle.wb_command.specs.declared.refusal.Refusal.TheVariants.{BadInput, InputMet, HandlesMet, LengthMet, LettersMet, ImageMet, HeightMet, NodesMet, IndexMet, LengthNeeded}
+use Rattle.wb_command.specs.declared.refusal.Refusal.TheVariants.{BadInput, InputMet, HandlesMet, StepsMet, LengthMet, LettersMet, ImageMet, HeightMet, NodesMet, IndexMet, LengthNeeded}
 use Rattle.wb_command.specs.declared.refusal.Comes.{Comes}
 use Rattle.wb_command.specs.declared.refusal.Comes.TheVariants as comes
 use Rattle.wb_command.specs.Answers.{bad_input, limit_met}
@@ -41,10 +42,15 @@ abbrev pub length_needed : ℕ → ℕ → Answer
 length_needed limit count =
     answer Limit (line ((codes "limit length " ++ decimal limit) ++ (codes " needs " ++ decimal count)))
 
+-- A file isn't accepted: its line k is refused, for this cause.
+abbrev pub refused_line : ℕ → List ℕ → List ℕ
+refused_line k why = line ((codes "refused " ++ decimal k) ++ 32 ∷ why)
+
 abbrev pub refusal_answer : Refusal → Answer
 refusal_answer (BadInput fault) = bad_input fault
 refusal_answer InputMet = input_met
 refusal_answer (HandlesMet handles) = limit_met (codes "handles ") handles
+refusal_answer (StepsMet steps) = limit_met (codes "steps ") steps
 refusal_answer (LengthMet limit) = limit_met (codes "length ") limit
 refusal_answer (LettersMet limit) = limit_met (codes "letters ") limit
 refusal_answer (ImageMet limit) = limit_met (codes "image ") limit

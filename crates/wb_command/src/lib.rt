@@ -12,7 +12,7 @@ mod term_input;
 pub use args::Args;
 pub use fault::Fault;
 pub use input::{InputErr, read_one_word, read_two_positive_words, read_two_words};
-pub use refusal::{Comes, Refusal, Written};
+pub use refusal::{Comes, Refusal, Written, put_refused};
 pub use streamed::{Streamed, run_streamed};
 pub use task::{Served, Stop, Task, run_task};
 pub use term_input::refuse;

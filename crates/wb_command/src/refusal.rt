@@ -3,14 +3,14 @@ ghost use Rattle.std.specs.Prelude.{◌≡◌};
 ghost use Rattle.wb_base.specs.Status.{Answer};
 ghost use Rattle.wb_base.specs.Streams.{HasCause, Puts};
 ghost use Rattle.wb_command.specs.Answers.{IsEnding};
-ghost use Rattle.wb_command.specs.Refusals.{comes_answer, length_needed, refusal_answer};
+ghost use Rattle.wb_command.specs.Refusals.{comes_answer, length_needed, refusal_answer, refused_line};
 
 use crate::MAX_INPUT;
 use crate::fault::Fault;
 use braid_word::MAX_INDEX;
 use ld_term::MAX_HEIGHT;
 use term_graph::MAX_NODES;
-use wb_base::{Failed, Sink, Status, put_numbered, put_numbered_line};
+use wb_base::{Failed, Sink, Status, give_all, put_line, put_numbered, put_numbered_line};
 
 /// What a command has come to, before it is written: a status, and a text.
 pub trait Written {
@@ -37,6 +37,8 @@ pub enum Refusal {
     InputMet,
     /// As many handles were reduced as may be.
     HandlesMet(u64),
+    /// As many corners were turned as may be.
+    StepsMet(u64),
     /// A word has more letters than it may.
     LengthMet(u64),
     /// A word of the input has more letters than the command works on.
@@ -67,6 +69,17 @@ fn put_needed<K: Sink>(sink: &mut K, limit: u64, count: u64) -> Result<(), Faile
     put_numbered_line(sink, b" needs ", count)
 }
 
+/// Gives the line of a file that isn't accepted: the number of the line that is refused, counted from 1, and
+/// the cause.
+pub fn put_refused<K: Sink>(sink: &mut K, line: u64, why: &[u8]) -> Result<(), Failed>
+    ensures took { Puts (K.taken sink.old) (K.taken sink.new) result (refused_line line why.now) }
+    ensures cause { HasCause (K.faults sink.old) (K.faults sink.new) result }
+{
+    put_numbered(sink, b"refused ", line)?;
+    give_all(sink, b" ")?;
+    put_line(sink, why)
+}
+
 impl Written for Refusal {
     ghost answer = { refusal_answer };
 
@@ -75,6 +88,7 @@ impl Written for Refusal {
             Refusal::BadInput(_) => Status::Input,
             Refusal::InputMet
             | Refusal::HandlesMet(_)
+            | Refusal::StepsMet(_)
             | Refusal::LengthMet(_)
             | Refusal::LettersMet(_)
             | Refusal::ImageMet(_)
@@ -90,6 +104,7 @@ impl Written for Refusal {
             Refusal::BadInput(fault) => fault.put(sink),
             Refusal::InputMet => put_numbered_line(sink, b"limit input ", MAX_INPUT as u64),
             Refusal::HandlesMet(handles) => put_numbered_line(sink, b"limit handles ", *handles),
+            Refusal::StepsMet(steps) => put_numbered_line(sink, b"limit steps ", *steps),
             Refusal::LengthMet(limit) => put_numbered_line(sink, b"limit length ", *limit),
             Refusal::LettersMet(limit) => put_numbered_line(sink, b"limit letters ", *limit),
             Refusal::ImageMet(limit) => put_numbered_line(sink, b"limit image ", *limit),

@@ -9,7 +9,7 @@
 --   IsChecked input text   the input is an accepted trace, and the text its verdict
 --   HasRefusal input text  the input isn't accepted, and the text its first refusal
 --   check_meaning          what the command means
-use Rattle.std.specs.Prelude.{◌≡◌, ℕ, List, ◌∷◌, ◌++◌, codes, decimal, Result, Ok, Err}
+use Rattle.std.specs.Prelude.{◌≡◌, ℕ, List, ◌++◌, codes, Result, Ok, Err}
 use Rattle.wb_base.specs.Lines.{line}
 use Rattle.wb_base.specs.Status.{Answer, answer}
 use Rattle.wb_base.specs.declared.status.Status.TheVariants.{Done, Refused}
@@ -21,6 +21,7 @@ use Rattle.trace_check.specs.FirstRefusal.{IsFirstRefusal}
 use Rattle.trace_check.specs.declared.checked.Why.{Why}
 use Rattle.trace_check.specs.declared.checked.Why.TheVariants as causes
 use Rattle.wb_command.specs.Meaning.{Meaning, reads_whole}
+use Rattle.wb_command.specs.Refusals.{refused_line}
 use Rattle.wb_compare.specs.declared.check.Judged.{Judged}
 use Rattle.wb_compare.specs.declared.check.Judged.TheVariants as judged
 
@@ -35,12 +36,12 @@ why_word causes.Sign = codes "sign"
 why_word causes.Truncated = codes "truncated"
 why_word causes.Extra = codes "extra"
 
--- The line of an accepted file, and that of a refused one: `refused 4 step`.
+-- The line of an accepted file, and that of a refused one.
 abbrev pub accepted_text : Verdict → List ℕ
 accepted_text verdict = line (codes "accepted " ++ verdict_word verdict)
 
 abbrev pub refused_text : ℕ → Why → List ℕ
-refused_text k why = line ((codes "refused " ++ decimal k) ++ (32 ∷ why_word why))
+refused_text k why = refused_line k (why_word why)
 
 -- `check` on what its input is: a file that claims something, or its first refusal.
 abbrev pub checked : Result Claim (ℕ × Why) → Answer

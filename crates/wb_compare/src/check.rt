@@ -1,15 +1,14 @@
 // The command `check`.
-ghost use Rattle.std.specs.Prelude.{◌≡◌, ◌∷◌, ◌++◌, codes};
-ghost use Rattle.wb_base.specs.Streams.{HasCause, Puts};
+ghost use Rattle.std.specs.Prelude.{◌≡◌, ◌++◌, codes};
 ghost use Rattle.trace_format.specs.TraceText.{verdict_word};
-ghost use Rattle.wb_compare.specs.Check.{check_meaning, judged_answer, refused_text, why_word};
+ghost use Rattle.wb_compare.specs.Check.{check_meaning, judged_answer, why_word};
 
 use line_file::SourceErr;
 use std::alloc::Global;
 use trace_check::{Why, check_source};
 use trace_format::Verdict;
-use wb_base::{Failed, Sink, Source, Status, put_line, put_numbered};
-use wb_command::{Comes, MAX_INPUT, Refusal, Stop, Streamed, Written};
+use wb_base::{Failed, Sink, Source, Status, put_line};
+use wb_command::{Comes, MAX_INPUT, Refusal, Stop, Streamed, Written, put_refused};
 
 /// `check`: tells whether a trace file is accepted.
 #[derive(Clone, Copy, Debug, PartialEq, Eq)]
@@ -24,29 +23,20 @@ pub enum Judged {
     Refused(u64, Why),
 }
 
-// A cause of refusal, after a space, as it is written.
+// A cause of refusal, as it is written.
 fn why_text(why: Why) -> &'static [u8]
-    ensures { result.now ≡ 32 ∷ why_word why }
+    ensures { result.now ≡ why_word why }
 {
     match why {
-        Why::Form => b" form",
-        Why::Header => b" header",
-        Why::Step => b" step",
-        Why::Long => b" long",
-        Why::Witness => b" witness",
-        Why::Sign => b" sign",
-        Why::Truncated => b" truncated",
-        Why::Extra => b" extra",
+        Why::Form => b"form",
+        Why::Header => b"header",
+        Why::Step => b"step",
+        Why::Long => b"long",
+        Why::Witness => b"witness",
+        Why::Sign => b"sign",
+        Why::Truncated => b"truncated",
+        Why::Extra => b"extra",
     }
-}
-
-// Gives the line of a refused file.
-fn put_refused<K: Sink>(sink: &mut K, line: u64, why: Why) -> Result<(), Failed>
-    ensures took { Puts (K.taken sink.old) (K.taken sink.new) result (refused_text line why) }
-    ensures cause { HasCause (K.faults sink.old) (K.faults sink.new) result }
-{
-    put_numbered(sink, b"refused ", line)?;
-    put_line(sink, why_text(why))
 }
 
 // The line of an accepted file, without its LF.
@@ -73,7 +63,7 @@ impl Written for Judged {
     fn put<K: Sink>(&self, sink: &mut K) -> Result<(), Failed> {
         match self {
             Judged::Accepted(verdict) => put_line(sink, accepted_line(*verdict)),
-            Judged::Refused(line, why) => put_refused(sink, *line, *why),
+            Judged::Refused(line, why) => put_refused(sink, *line, why_text(*why)),
         }
     }
 }

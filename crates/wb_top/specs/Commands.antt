@@ -3,8 +3,10 @@
 -- Source: this project's own.
 --
 --   command_of words     the command, if the words are one
---   word_command_of name words, term_command_of name words, table_command_of name words
---                        the same of its name and its arguments, from `normal`, `eval` and `laver` on
+--   word_command_of name words, reverse_command_of name words, term_command_of name words,
+--   table_command_of name words
+--                        the same of its name and its arguments, from `normal`, `reverse`, `eval` and `laver`
+--                        on
 --   meaning_of command   what it means
 use Rattle.std.specs.Prelude.{ℕ, if◌then◌else◌, List, [], ◌∷◌, codes, Option, None}
 use Rattle.std.specs.Option.{option_map}
@@ -20,6 +22,9 @@ use Rattle.wb_words.specs.Normal.{normal_meaning, normal_of}
 use Rattle.wb_words.specs.Act.{act_meaning, act_of}
 use Rattle.wb_words.specs.GreatestDivisor.{gcd_meaning, gcd_of}
 use Rattle.wb_words.specs.Bench.{bench_meaning, bench_of}
+use Rattle.wb_reverse.specs.Reverse.{reverse_meaning}
+use Rattle.wb_reverse.specs.Reverse as reversing
+use Rattle.wb_reverse.specs.ReverseCheck.{reverse_check_meaning}
 use Rattle.wb_terms.specs.Eval.{eval_meaning, eval_of}
 use Rattle.wb_terms.specs.Value.{value_meaning, value_of_words}
 use Rattle.wb_terms.specs.Expand.{expand_meaning, expand_of}
@@ -28,7 +33,7 @@ use Rattle.wb_terms.specs.Laver.{laver_meaning, laver_of}
 use Rattle.wb_terms.specs.Row.{row_meaning, row_of_words}
 use Rattle.wb_top.specs.Session.{session_meaning}
 use Rattle.wb_top.specs.declared.command.Command.{Command}
-use Rattle.wb_top.specs.declared.command.Command.TheVariants.{Compare, Terms, Check, Normal, Same, Act, Gcd, Eval, Value, Expand, Derive, Laver, Row, Session, Bench}
+use Rattle.wb_top.specs.declared.command.Command.TheVariants.{Compare, Terms, Check, Normal, Same, Act, Gcd, Reverse, ReverseCheck, Eval, Value, Expand, Derive, Laver, Row, Session, Bench}
 
 -- The command of a name, from `laver` on.
 abbrev pub table_command_of : List ℕ → List (List ℕ) → Option Command
@@ -47,6 +52,13 @@ term_command_of name words =
     else (if bytes_eq name (codes "derive") then last_read words Derive
     else table_command_of name words)))
 
+-- From `reverse` on.
+abbrev pub reverse_command_of : List ℕ → List (List ℕ) → Option Command
+reverse_command_of name words =
+    if bytes_eq name (codes "reverse") then option_map Reverse (reversing.limits_of words)
+    else (if bytes_eq name (codes "reverse-check") then last_read words ReverseCheck
+    else term_command_of name words)
+
 -- From `normal` on.
 abbrev pub word_command_of : List ℕ → List (List ℕ) → Option Command
 word_command_of name words =
@@ -54,7 +66,7 @@ word_command_of name words =
     else (if bytes_eq name (codes "same") then option_map Same (strands_of words)
     else (if bytes_eq name (codes "act") then option_map Act (act_of words)
     else (if bytes_eq name (codes "gcd") then option_map Gcd (gcd_of words)
-    else term_command_of name words)))
+    else reverse_command_of name words)))
 
 -- The command of some words: its name, and then its arguments.
 abbrev pub command_of : List (List ℕ) → Option Command
@@ -73,6 +85,8 @@ meaning_of (Normal strands) = normal_meaning strands
 meaning_of (Same strands) = same_meaning strands
 meaning_of (Act numbers) = act_meaning numbers
 meaning_of (Gcd strands) = gcd_meaning strands
+meaning_of (Reverse limits) = reverse_meaning limits
+meaning_of ReverseCheck = reverse_check_meaning
 meaning_of (Eval limit) = eval_meaning limit
 meaning_of (Value exponent) = value_meaning exponent
 meaning_of (Expand address) = expand_meaning address

@@ -2,13 +2,14 @@
 ghost use Rattle.std.specs.Prelude.{◌≡◌, ◌≢◌, map, string_bytes};
 ghost use Rattle.wb_command.specs.Args.{last_read};
 ghost use Rattle.wb_command.specs.Meaning.{HasRun, IsSound};
-ghost use Rattle.wb_top.specs.Commands.{command_of, meaning_of, table_command_of, term_command_of, word_command_of};
+ghost use Rattle.wb_top.specs.Commands.{command_of, meaning_of, reverse_command_of, table_command_of, term_command_of, word_command_of};
 
 use crate::session::Session;
 use std::alloc::Global;
 use wb_base::{Sink, Source, Status};
 use wb_command::{Args, Served, Streamed, Task, run_streamed, run_task};
 use wb_compare::{Check, Compare, CompareTerms, Same};
+use wb_reverse::{Reverse, ReverseCheck};
 use wb_terms::{Derive, Eval, Expand, Laver, Row, Valuation};
 use wb_words::{Act, Bench, Gcd, Normal};
 
@@ -29,6 +30,10 @@ pub enum Command<'a> {
     Act(Act),
     /// Gives the greatest common left divisor of two positive words.
     Gcd(Gcd),
+    /// Gives a word as a fraction.
+    Reverse(Reverse),
+    /// Checks a reverse file.
+    ReverseCheck,
     /// Gives the braid word of a term.
     Eval(Eval),
     /// Gives the value of a term in a Laver table.
@@ -92,6 +97,19 @@ fn read_term_command<'a>(name: &str, words: &mut Args<'a>) -> Option<Command<'a>
     }
 }
 
+// From `reverse` on.
+fn read_reverse_command<'a>(name: &str, words: &mut Args<'a>) -> Option<Command<'a>>
+    ensures { result ≡ reverse_command_of name.now words.old }
+{
+    if name == "reverse" {
+        Some(Command::Reverse(Reverse::read(words)?))
+    } else if name == "reverse-check" {
+        bare(words, Command::ReverseCheck)
+    } else {
+        read_term_command(name, words)
+    }
+}
+
 // From `normal` on.
 fn read_word_command<'a>(name: &str, words: &mut Args<'a>) -> Option<Command<'a>>
     ensures { result ≡ word_command_of name.now words.old }
@@ -105,7 +123,7 @@ fn read_word_command<'a>(name: &str, words: &mut Args<'a>) -> Option<Command<'a>
     } else if name == "gcd" {
         Some(Command::Gcd(Gcd::read(words)?))
     } else {
-        read_term_command(name, words)
+        read_reverse_command(name, words)
     }
 }
 
@@ -140,6 +158,8 @@ impl<'a> Command<'a> {
             Command::Same(task) => task.law_sound(),
             Command::Act(task) => task.law_sound(),
             Command::Gcd(task) => task.law_sound(),
+            Command::Reverse(task) => task.law_sound(),
+            Command::ReverseCheck => ReverseCheck.law_streamed(),
             Command::Eval(task) => task.law_sound(),
             Command::Value(task) => task.law_sound(),
             Command::Expand(task) => task.law_sound(),
@@ -187,6 +207,8 @@ pub(crate) fn run_command<S: Source, K: Sink>(
         Command::Same(task) => run_task(alloc, task, source, sink),
         Command::Act(task) => run_task(alloc, task, source, sink),
         Command::Gcd(task) => run_task(alloc, task, source, sink),
+        Command::Reverse(task) => run_task(alloc, task, source, sink),
+        Command::ReverseCheck => run_streamed(alloc, &ReverseCheck, source, sink),
         Command::Eval(task) => run_task(alloc, task, source, sink),
         Command::Value(task) => run_task(alloc, task, source, sink),
         Command::Expand(task) => run_task(alloc, task, source, sink),

@@ -530,6 +530,93 @@ fn divides_words_of_up_to_2000_letters(rt: HostRuntime) -> Result<(), Fail> {
     Ok(assert_rows(&rt, alloc, &[("gcd 2", &most, Status::Done, &rest)], &[])?)
 }
 
+// The reverse file of the word `-1 2`.
+const REVERSED: &[u8] = b"reverse-trace 1\nword -1 2\nr 1\nleft 2 1\nright 1 2\nend\n";
+
+#[test]
+fn gives_a_fraction_or_the_limit_that_was_met(rt: HostRuntime) -> Result<(), Fail> {
+    let rows: [Row; 13] = [
+        ("reverse 9 9", b"-1 2\n", Status::Done, REVERSED),
+        ("reverse 1 4", b" Ab", Status::Done, REVERSED),
+        (
+            "reverse 9 9",
+            b"-2 -1 2 1\n",
+            Status::Done,
+            b"reverse-trace 1\nword -2 -1 2 1\nr 2\nr 1\nr 3\nleft 1\nright 2\nend\n",
+        ),
+        (
+            "reverse 9 9",
+            b"-1 3\n",
+            Status::Done,
+            b"reverse-trace 1\nword -1 3\nr 1\nleft 3\nright 1\nend\n",
+        ),
+        (
+            "reverse 0 0",
+            b"\n",
+            Status::Done,
+            b"reverse-trace 1\nword\nleft\nright\nend\n",
+        ),
+        (
+            "reverse 0 3",
+            b"1 255 -2\n",
+            Status::Done,
+            b"reverse-trace 1\nword 1 255 -2\nleft 1 255\nright 2\nend\n",
+        ),
+        ("reverse 0 9", b"-1 2\n", Status::Limit, b"limit steps 0\n"),
+        (
+            "reverse 2 9",
+            b"-2 -1 2 1\n",
+            Status::Limit,
+            b"limit steps 2\n",
+        ),
+        ("reverse 9 3", b"-1 2\n", Status::Limit, b"limit length 3\n"),
+        ("reverse 0 1", b"-1 2\n", Status::Limit, b"limit length 1\n"),
+        ("reverse 9 9", b"", Status::Input, b"input 1 lines\n"),
+        ("reverse 9 9", b"1\n2\n", Status::Input, b"input 2 lines\n"),
+        ("reverse 9 9", b"256\n", Status::Input, b"input 1 index 1\n"),
+    ];
+    Ok(assert_rows(&rt, rt.alloc(), &rows, &[])?)
+}
+
+#[test]
+fn checks_a_reverse_file_of_any_maker(rt: HostRuntime) -> Result<(), Fail> {
+    let rows: [(&[u8], &[u8]); 10] = [
+        (b"", b"refused 1 truncated\n"),
+        (b"braid-trace 1\n", b"refused 1 header\n"),
+        (b"reverse-trace 1\nleft\n", b"refused 2 header\n"),
+        (b"reverse-trace 1\nword -1 2\nr 2\n", b"refused 3 step\n"),
+        (b"reverse-trace 1\nword -1 2\nr 01\n", b"refused 3 form\n"),
+        (
+            b"reverse-trace 1\nword -1 2\nr 1\nleft 2\n",
+            b"refused 4 fraction\n",
+        ),
+        (
+            b"reverse-trace 1\nword -1 2\nr 1\nleft 2 1\nright 2 1\n",
+            b"refused 5 fraction\n",
+        ),
+        (
+            b"reverse-trace 1\nword\nleft\nright\nend",
+            b"refused 5 truncated\n",
+        ),
+        (
+            b"reverse-trace 1\nword\nleft\nright\nend\n\n",
+            b"refused 6 extra\n",
+        ),
+        (b"reverse-trace 1\nword 256\n", b"refused 2 form\n"),
+    ];
+    let alloc = rt.alloc();
+    for (input, text) in rows {
+        assert_rows(
+            &rt,
+            alloc,
+            &[("reverse-check", input, Status::Refused, text)],
+            &[],
+        )?;
+    }
+    let accepted: Row = ("reverse-check", REVERSED, Status::Done, b"accepted\n");
+    Ok(assert_rows(&rt, alloc, &[accepted], &[])?)
+}
+
 #[test]
 fn tells_whether_words_are_equivalent(rt: HostRuntime) -> Result<(), Fail> {
     let rows: [Row; 8] = [
@@ -625,6 +712,12 @@ fn reads_nothing_for_words_that_are_no_command(rt: HostRuntime) -> Result<(), Fa
         "act 3 1 0",
         "act 3 1 100001",
         "act 3 1 9 9",
+        "reverse",
+        "reverse 9",
+        "reverse 100001 9",
+        "reverse 9 100001",
+        "reverse 9 9 9",
+        "reverse-check 1",
         "value",
         "value 15",
         "value 1 1",

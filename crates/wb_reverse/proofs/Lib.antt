@@ -1,0 +1,3 @@
+mod ReverseLengths
+mod ReverseLemmas
+mod ReverseCheckLemmas

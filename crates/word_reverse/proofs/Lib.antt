@@ -1,0 +1,20 @@
+pub mod CornerLemmas
+pub mod FractionLemmas
+pub mod CursorLemmas
+pub mod RevRunLemmas
+mod KeptByRevRuns
+pub mod RevRunEquivalence
+pub mod ReverserLemmas
+pub mod TextLemmas
+pub mod WrittenLemmas
+pub mod FieldLemmas
+pub mod LineLaws
+pub mod ReverseLaws
+pub mod StepLaws
+pub mod KeptLaws
+pub mod AcceptedLemmas
+pub mod CheckingLaws
+pub mod RefusalLaws
+pub mod PresentLemmas
+pub mod CornerFacts
+pub mod ReverseFacts

@@ -1,0 +1,8 @@
+-- The letters before a place are the same.
+use Rattle.std.proofs.Common.{◌≡◌, ℕ, ◌<◌, ◌++◌, slice_get}
+use Rattle.braid_word.specs.Words.{inverse}
+use Rattle.word_reverse.specs.Cursors.{whole}
+use Rattle.word_reverse.proofs.present.is_fraction.Given as goal
+
+abbrev pub invariant-loop-k : goal.invariant-loop-k
+invariant-loop-k l = (m : ℕ) → m < l.k → slice_get (whole l.letters) m ≡ slice_get (l.u ++ inverse l.v) m

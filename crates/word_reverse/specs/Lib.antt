@@ -1,0 +1,12 @@
+pub mod Corners
+pub mod Fractions
+pub mod RevRuns
+pub mod Cursors
+pub mod ReverseText
+pub mod ReverseLines
+pub mod Written
+pub mod Accepted
+pub mod States
+pub mod Checking
+pub mod FirstRefusal
+pub mod Keeping
