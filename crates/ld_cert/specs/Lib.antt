@@ -1,0 +1,10 @@
+pub mod Certificates
+pub mod CertificateText
+pub mod Accepted
+pub mod States
+pub mod Checking
+pub mod FirstRefusal
+pub mod Differences
+pub mod Derivations
+pub mod StateCodes
+pub mod Keeping
